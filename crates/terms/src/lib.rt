@@ -1,0 +1,7 @@
+// The words that every layer speaks: refusals, sends, events, sets of objects, and tables in fixed memory.
+pub mod event;
+pub mod object_set;
+pub mod refusal;
+pub mod send;
+pub mod slots;
+pub mod table;
