@@ -3,7 +3,7 @@ ghost use mathlib.Core.Path.{_≡_};
 ghost use Rattle.kernel.specs.Plan.{disciplineOf};
 use crate::fault::SetupFault;
 
-#[derive(Clone, Copy, PartialEq, Eq, Debug)]
+#[derive(Clone, Copy)]
 pub enum Discipline {
     Strict,
     Rotating,

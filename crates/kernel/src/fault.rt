@@ -3,7 +3,7 @@ ghost use mathlib.Core.Path.{_≡_};
 ghost use Rattle.kernel.specs.Faults.{refusalOf};
 use terms::refusal::Refusal;
 
-#[derive(Clone, Copy, PartialEq, Eq, Debug)]
+#[derive(Clone, Copy)]
 pub enum SetupFault {
     Object,
     Signal,

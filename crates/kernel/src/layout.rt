@@ -11,14 +11,14 @@ use terms::slots::Slots;
 use terms::table::Table;
 
 // Frames of one size, counted in words.
-#[derive(Clone, Copy, PartialEq, Eq, Debug)]
+#[derive(Clone, Copy)]
 pub struct Pool {
     pub size: u8,
     pub count: u8,
 }
 
 // How many frames wait at an object at most, and how many it defers.
-#[derive(Clone, Copy, PartialEq, Eq, Debug)]
+#[derive(Clone, Copy)]
 pub struct Lengths {
     pub queue: u8,
     pub deferral: u8,

@@ -1,8 +1,7 @@
 -- Numbered values: what slots and a table hold, and what adding and replacing leave.
-use mathlib.Core.Path.{_≡_}
-use mathlib.Core.Bool.{Bool, true, false, _&&_}
+use mathlib.Core.Bool.{Bool, false, cond}
 use mathlib.Core.List.{List, [], _∷_, _++_}
-use Prim.Native.Nat.{ℕ, zero, suc, _<_, _≤_}
+use Prim.Native.Nat.{ℕ, zero, suc}
 use lib.Dec.{ltb}
 use lib.ListN.{length, take, set}
 use Rattle.std.specs.shelf.Maps.{nth}
@@ -13,7 +12,7 @@ use Rattle.std.specs.declared.result.Result.the-variants.{Ok, Err}
 use Rattle.terms.specs.declared.slots.Slots.{Slots}
 use Rattle.terms.specs.declared.table.Table.{Table}
 use Rattle.terms.specs.declared.table.TableFault.{TableFault}
-use Rattle.terms.specs.declared.table.TableFault.the-variants.{Full}
+use Rattle.terms.specs.declared.table.TableFault.the-variants.{Full, Value}
 
 -- the values of slots, in the order of their numbers
 abbrev pub values : {T : Type 0} {N : ℕ} → Slots T N → List T
@@ -45,7 +44,11 @@ changed [] (suc n) f = []
 changed (x ∷ xs) (suc zero) f = f x ∷ xs
 changed (x ∷ xs) (suc (suc n)) f = x ∷ changed xs (suc n) f
 
--- adding x to a table of at most N entries: it goes last, unless the table is full
-abbrev pub Added : {T U : Type 0} → ℕ → List T → T → Result U TableFault → List T → Type 0
-Added N before x (Ok _) after = (length before < N) × (after ≡ before ++ x ∷ [])
-Added N before x (Err f) after = (length before ≡ N) × (f ≡ Full) × (after ≡ before)
+-- an entry behind the others; a faulty one is None
+abbrev pub lastOf : {T : Type 0} → List T → Option T → Result (List T) TableFault
+lastOf xs None = Err Value
+lastOf xs (Some x) = Ok (xs ++ x ∷ [])
+
+-- a table of at most N entries with one more, which goes last: a full table is refused before a faulty entry
+abbrev pub added : {T : Type 0} → ℕ → List T → Option T → Result (List T) TableFault
+added N xs x = cond (ltb (length xs) N) (lastOf xs x) (Err Full)

@@ -1,8 +1,10 @@
 // An event: a signal and up to eight words of 32 bits.
 ghost use mathlib.Core.Path.{_≡_};
 ghost use mathlib.Core.List.{[]};
-ghost use Rattle.terms.specs.Events.{Content, content};
-ghost use Rattle.terms.specs.Entries.{entries, Added};
+ghost use Rattle.terms.specs.Events.{content};
+ghost use Rattle.std.specs.declared.option.Option.the-variants.{Some};
+ghost use Rattle.terms.specs.Calls.{Follows};
+ghost use Rattle.terms.specs.Entries.{added};
 use crate::table::Table;
 use crate::table::TableFault;
 
@@ -26,7 +28,7 @@ impl Event {
     // One word more, behind the others; a ninth is refused.
     pub fn push(&mut self, word: u32) -> Result<(), TableFault>
         ensures signal { λ _. ⌜ content (now (self .exit)) .signal ≡ content (now (self .entry)) .signal ⌝ }
-        ensures words { λ r. ⌜ Added 8 (content (now (self .entry)) .words) word r (content (now (self .exit)) .words) ⌝ }
+        ensures words { λ r. ⌜ Follows (added 8 (content (now (self .entry)) .words) (Some word)) r (content (now (self .entry)) .words) (content (now (self .exit)) .words) ⌝ }
     {
         self.words.push(word)
     }

@@ -3,7 +3,9 @@ ghost use mathlib.Core.Path.{_≡_};
 ghost use mathlib.Core.List.{[]};
 ghost use Prim.Native.Nat.{_≤_};
 ghost use lib.ListN.{length};
-ghost use Rattle.terms.specs.Entries.{entries, numbered, replaced, among, Added};
+ghost use Rattle.std.specs.declared.option.Option.the-variants.{Some};
+ghost use Rattle.terms.specs.Calls.{Follows};
+ghost use Rattle.terms.specs.Entries.{entries, numbered, replaced, among, added};
 use super::Table;
 use super::TableFault;
 
@@ -43,7 +45,7 @@ impl<T: Copy, const N: usize> Table<T, N> {
 
     // One entry more, behind the others.
     pub fn push(&mut self, entry: T) -> Result<(), TableFault>
-        ensures { λ r. ⌜ Added N (entries (now (self .entry))) entry r (entries (now (self .exit))) ⌝ }
+        ensures { λ r. ⌜ Follows (added N (entries (now (self .entry))) (Some entry)) r (entries (now (self .entry))) (entries (now (self .exit))) ⌝ }
     {
         if self.len == N {
             return Err(TableFault::Full);
@@ -51,6 +53,17 @@ impl<T: Copy, const N: usize> Table<T, N> {
         self.places[self.len] = entry;
         self.len += 1;
         Ok(())
+    }
+
+    // One entry more, where `None` stands for a faulty one: a full table is refused before it.
+    pub fn add(&mut self, entry: Option<T>) -> Result<(), TableFault>
+        ensures { λ r. ⌜ Follows (added N (entries (now (self .entry))) entry) r (entries (now (self .entry))) (entries (now (self .exit))) ⌝ }
+    {
+        match entry {
+            Some(entry) => self.push(entry),
+            None if self.len == N => Err(TableFault::Full),
+            None => Err(TableFault::Value),
+        }
     }
 
     // Puts an entry in the place of the one with that number; false where there is none.

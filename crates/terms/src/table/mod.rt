@@ -22,7 +22,7 @@ pub impl<T: Copy, const N: usize> Clone for Table<T, N> as TableClone {
 }
 
 // Why a table takes no further entry, or not this one.
-#[derive(Clone, Copy, PartialEq, Eq, Debug)]
+#[derive(Clone, Copy)]
 pub enum TableFault {
     Full,
     Value,
