@@ -1,3 +1,4 @@
+pub mod Added
 pub mod Members
 pub mod Numbered
 pub mod Ranges

@@ -2,6 +2,8 @@
 use Prim.Native.Nat.{ℕ}
 use Rattle.terms.specs.declared.refusal.Refusal.{Refusal}
 use Rattle.terms.specs.declared.refusal.Refusal.the-variants.{Words, Signal, Object, Pool, Length, File, Form, Value, Full, NoFrame, NoPlace, NotLive, NothingDeferred}
+use Rattle.terms.specs.declared.table.TableFault.{TableFault}
+use Rattle.terms.specs.declared.table.TableFault.the-variants as table
 
 abbrev pub numberOf : Refusal → ℕ
 -- more words than the largest pool's size, or no pool
@@ -30,3 +32,8 @@ numberOf NoPlace = 22
 numberOf NotLive = 23
 -- nothing deferred to recall
 numberOf NothingDeferred = 24
+
+-- the refusal that each fault of a table is
+abbrev pub tableRefusalOf : TableFault → Refusal
+tableRefusalOf table.Full = Full
+tableRefusalOf table.Value = Value

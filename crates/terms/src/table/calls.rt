@@ -5,9 +5,11 @@ ghost use Prim.Native.Nat.{_≤_};
 ghost use lib.ListN.{length};
 ghost use Rattle.std.specs.declared.option.Option.the-variants.{Some};
 ghost use Rattle.terms.specs.Calls.{Follows};
+ghost use Rattle.terms.specs.Refusals.{tableRefusalOf};
 ghost use Rattle.terms.specs.Entries.{entries, numbered, replaced, among, added};
 use super::Table;
 use super::TableFault;
+use crate::refusal::Refusal;
 
 impl<T: Copy, const N: usize> Table<T, N> {
     // An empty table; the filler stands in the places that no entry has yet.
@@ -76,5 +78,16 @@ impl<T: Copy, const N: usize> Table<T, N> {
         }
         self.places[number - 1] = entry;
         true
+    }
+}
+
+impl TableFault {
+    pub fn refusal(self) -> Refusal
+        ensures { λ r. ⌜ r ≡ tableRefusalOf self ⌝ }
+    {
+        match self {
+            TableFault::Full => Refusal::Full,
+            TableFault::Value => Refusal::Value,
+        }
     }
 }
