@@ -64,22 +64,22 @@ someHolds (p ∷ ps) n = leb n (p .size) || someHolds ps n
 abbrev pub poolFits : List the-pool.Pool → ℕ → ℕ → Bool
 poolFits ps size count = ltb (length ps) 3 && (ltb (largest ps) size && (leb size 8 && (leb 1 count && leb (total ps + count) 64)))
 
-abbrev pub addPool : Plan → ℕ → ℕ → Result Plan SetupFault
+unfoldable pub addPool : Plan → ℕ → ℕ → Result Plan SetupFault
 addPool p size count =
     cond (poolFits (p .pools) size count) (Ok (withPools p (p .pools ++ (record { size = size; count = count }) ∷ []))) (Err Pool)
 
 -- the object first, then the lengths: 1 to 16 places in the queue, 0 to 8 in the deferral queue
-abbrev pub setLengths : Plan → ℕ → ℕ → ℕ → Result Plan SetupFault
+unfoldable pub setLengths : Plan → ℕ → ℕ → ℕ → Result Plan SetupFault
 setLengths p object queue deferral =
     cond (between 1 object (p .objects))
     (cond (between 1 queue 16 && leb deferral 8) (Ok (withLengths p (replaced (p .lengths) object (record { queue = queue; deferral = deferral })))) (Err Length))
     (Err Object)
 
-abbrev pub disciplineOf : ℕ → Result Discipline SetupFault
+unfoldable pub disciplineOf : ℕ → Result Discipline SetupFault
 disciplineOf n = cond (eqb n 0) (Ok Strict) (cond (eqb n 1) (Ok Rotating) (Err Value))
 
 -- the object first, then the signal
-abbrev pub subscribed : Plan → ℕ → ℕ → Result Plan SetupFault
+unfoldable pub subscribed : Plan → ℕ → ℕ → Result Plan SetupFault
 subscribed p object signal =
     cond (between 1 object (p .objects))
     (cond (between 1 signal 64) (Ok (withSubscribers p (changed (p .subscribers) signal (joins object)))) (Err Signal))

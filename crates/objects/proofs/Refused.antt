@@ -24,9 +24,11 @@ pub undeclared : {X : Type 0} (xs : List X) (n : ℕ) → numbered xs n ≡ None
 undeclared xs n none = between-false 1 n (length xs) (λ low high. numbered-none xs n none low high)
 
 pub initial-undeclared : (d : Drawing) (state target : ℕ) → numbered (d .states) state ≡ None → setInitial d state target ≡ Err Value
+unfolding setInitial
 initial-undeclared d state target none = rw (undeclared (d .states) state none) refl
 
 pub arc-undeclared : (d : Drawing) (ts : List Transition) (transition place take give : ℕ) → d .transitions ≡ map firing ts → numbered ts transition ≡ None → setArc d transition place take give ≡ Err Value
+unfolding setArc
 arc-undeclared d ts transition place take give are none =
     let long : length (d .transitions) ≡ length ts = ap length are ∙ length-map ts firing in
     let out : between 1 transition (length (d .transitions)) ≡ false = between-false 1 transition (length (d .transitions)) (λ low high. numbered-none ts transition none low (omega arith)) in

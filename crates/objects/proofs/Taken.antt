@@ -17,12 +17,14 @@ use Rattle.objects.specs.declared.net.Transition.{Transition}
 use Rattle.objects.proofs.Parts.{changed-map}
 
 pub initial-taken : (d : Drawing) (state target : ℕ) (found : State) (after : List State) → numbered (d .states) state ≡ Some found → target ≤ length (d .states) → descends (d .states) target state ≡ true → after ≡ replaced (d .states) state (startingAt target found) → setInitial d state target ≡ Ok (withStates d after)
+unfolding setInitial
 initial-taken d state target found after is low below new =
     let place = numbered-some (d .states) state found is in
     rw (between-true 1 state (length (d .states)) (place .0) (place .1), le-leb target (length (d .states)) low, below)
     (ap (λ l. Ok (withStates d l)) (sym (new ∙ replaced-changed (d .states) state (startingAt target) found is)))
 
 pub arc-taken : (d : Drawing) (ts after : List Transition) (n place take give : ℕ) (found new : Transition) → d .transitions ≡ map firing ts → numbered ts n ≡ Some found → 1 ≤ place → place ≤ 8 → take ≤ 255 → give ≤ 255 → firing new ≡ withArc place take give (firing found) → after ≡ replaced ts n new → setArc d n place take give ≡ Ok (withTransitions d (map firing after))
+unfolding setArc
 arc-taken d ts after n place take give found new are is low high some more means left =
     let at = numbered-some ts n found is in
     let long : length (d .transitions) ≡ length ts = ap length are ∙ length-map ts firing in

@@ -82,7 +82,7 @@ sendOf kind object signal word =
 abbrev pub withSends : Drawing → List Send → Drawing
 withSends d xs = record { sends = xs; states = d .states; rows = d .rows; flatRows = d .flatRows; marks = d .marks; transitions = d .transitions }
 
-abbrev pub addSend : Drawing → ℕ → ℕ → ℕ → ℕ → Result Drawing TableFault
+unfoldable pub addSend : Drawing → ℕ → ℕ → ℕ → ℕ → Result Drawing TableFault
 addSend d kind object signal word = made (withSends d) (added 32 (d .sends) (sendOf kind object signal word))
 
 -- a send's number: 0 is no send
@@ -111,7 +111,7 @@ stateOf d parent entry exit =
     given (leb parent (length (d .states)) && (eqb (up (d .states) 3 parent) 0 && (leb entry (length (d .sends)) && leb exit (length (d .sends)))))
     (record { parent = parent; entry = entry; exit = exit; initial = 0 })
 
-abbrev pub addState : Drawing → ℕ → ℕ → ℕ → Result Drawing TableFault
+unfoldable pub addState : Drawing → ℕ → ℕ → ℕ → Result Drawing TableFault
 addState d parent entry exit = made (withStates d) (added 32 (d .states) (stateOf d parent entry exit))
 
 -- 0 always, 1 the first word equals the value, 2 it is below the value
@@ -126,7 +126,7 @@ abbrev pub startingAt : ℕ → State → State
 startingAt target s = record { parent = s .parent; entry = s .entry; exit = s .exit; initial = target }
 
 -- state and target are declared, and the target is a proper descendant of the state
-abbrev pub setInitial : Drawing → ℕ → ℕ → Result Drawing TableFault
+unfoldable pub setInitial : Drawing → ℕ → ℕ → Result Drawing TableFault
 setInitial d state target =
     cond (between 1 state (length (d .states)) && (leb target (length (d .states)) && descends (d .states) target state))
     (Ok (withStates d (changed (d .states) state (startingAt target))))
@@ -151,7 +151,7 @@ rowOf d state signal guard value kind target send =
 abbrev pub withRows : Drawing → List Row → Drawing
 withRows d xs = record { sends = d .sends; states = d .states; rows = xs; flatRows = d .flatRows; marks = d .marks; transitions = d .transitions }
 
-abbrev pub addRow : Drawing → ℕ → ℕ → ℕ → ℕ → ℕ → ℕ → ℕ → Result Drawing TableFault
+unfoldable pub addRow : Drawing → ℕ → ℕ → ℕ → ℕ → ℕ → ℕ → ℕ → Result Drawing TableFault
 addRow d state signal guard value kind target send = made (withRows d) (added 64 (d .rows) (rowOf d state signal guard value kind target send))
 
 -- 0 moves to a state from 1 to 16 with a send, 2 defers; a row that defers has zeros there
@@ -170,13 +170,13 @@ flatRowOf d state signal kind next send = cond (between 1 state 16 && between 1 
 abbrev pub withFlatRows : Drawing → List FlatRow → Drawing
 withFlatRows d xs = record { sends = d .sends; states = d .states; rows = d .rows; flatRows = xs; marks = d .marks; transitions = d .transitions }
 
-abbrev pub addFlatRow : Drawing → ℕ → ℕ → ℕ → ℕ → ℕ → Result Drawing TableFault
+unfoldable pub addFlatRow : Drawing → ℕ → ℕ → ℕ → ℕ → ℕ → Result Drawing TableFault
 addFlatRow d state signal kind next send = made (withFlatRows d) (added 64 (d .flatRows) (flatRowOf d state signal kind next send))
 
 abbrev pub withMarks : Drawing → List ℕ → Drawing
 withMarks d xs = record { sends = d .sends; states = d .states; rows = d .rows; flatRows = d .flatRows; marks = xs; transitions = d .transitions }
 
-abbrev pub setMarks : Drawing → ℕ → ℕ → Result Drawing TableFault
+unfoldable pub setMarks : Drawing → ℕ → ℕ → Result Drawing TableFault
 setMarks d place count = cond (between 1 place 8 && leb count 255) (Ok (withMarks d (replaced (d .marks) place count))) (Err Value)
 
 abbrev pub withTransitions : Drawing → List Firing → Drawing
@@ -185,14 +185,14 @@ withTransitions d xs = record { sends = d .sends; states = d .states; rows = d .
 abbrev pub transitionOf : Drawing → ℕ → ℕ → Option Firing
 transitionOf d signal send = given (between 1 signal 64 && leb send (length (d .sends))) (blankFiring signal send)
 
-abbrev pub addTransition : Drawing → ℕ → ℕ → Result Drawing TableFault
+unfoldable pub addTransition : Drawing → ℕ → ℕ → Result Drawing TableFault
 addTransition d signal send = made (withTransitions d) (added 8 (d .transitions) (transitionOf d signal send))
 
 abbrev pub withArc : ℕ → ℕ → ℕ → Firing → Firing
 withArc place take give t = record { signal = t .signal; send = t .send; takes = replaced (t .takes) place take; gives = replaced (t .gives) place give }
 
 -- what a declared transition takes from a place and gives to it
-abbrev pub setArc : Drawing → ℕ → ℕ → ℕ → ℕ → Result Drawing TableFault
+unfoldable pub setArc : Drawing → ℕ → ℕ → ℕ → ℕ → Result Drawing TableFault
 setArc d transition place take give =
     cond (between 1 transition (length (d .transitions)) && (between 1 place 8 && (leb take 255 && leb give 255)))
     (Ok (withTransitions d (changed (d .transitions) transition (withArc place take give))))

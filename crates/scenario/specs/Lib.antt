@@ -1,3 +1,5 @@
+pub mod Cell
 pub mod Faults
 pub mod Format
+pub mod Lines
 pub mod Scanning

@@ -71,7 +71,7 @@ fn number(text: &[u8]) -> Option<(u16, &[u8])>
 }
 
 // The numbers of a line behind its letter. A line is short, so that the table has room for all of them.
-pub fn numbers(text: &[u8]) -> Option<Table<u16, 39>>
+pub(crate) fn numbers(text: &[u8]) -> Option<Table<u16, 39>>
     requires { ⌜ length (now text) ≤ 79 ⌝ }
     ensures { λ r. ⌜ BySome r (NoSpaces (now (text .entry))) (λ t. Spaces (now (text .entry)) (entries t)) ⌝ }
 {

@@ -1,3 +1,8 @@
 // The scenario file: a cell and a script as text. Reading checks every line before anything may run.
-pub mod digits;
 pub mod fault;
+pub mod script;
+pub mod setting;
+
+mod digits;
+mod setup_line;
+mod table_line;
