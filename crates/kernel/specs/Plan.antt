@@ -2,10 +2,10 @@
 use mathlib.Core.Path.{_≡_}
 use mathlib.Core.Bool.{Bool, true, false, cond, _&&_, _||_}
 use mathlib.Core.List.{List, [], _∷_, _++_}
-use Prim.Native.Nat.{ℕ, _+_}
+use Prim.Native.Nat.{ℕ, _+_, _≤_}
 use lib.Dec.{eqb, ltb, leb}
 use lib.ListN.{length, replicate}
-use Rattle.std.specs.declared.option.Option.{Option}
+use Rattle.std.specs.shelf.Lists.{All}
 use Rattle.std.specs.declared.result.Result.{Result}
 use Rattle.std.specs.declared.result.Result.the-variants.{Ok, Err}
 use Rattle.terms.specs.declared.object_set.ObjectSet.{ObjectSet}
@@ -59,6 +59,10 @@ largest (p ∷ q ∷ ps) = largest (q ∷ ps)
 abbrev pub someHolds : List the-pool.Pool → ℕ → Bool
 someHolds [] n = false
 someHolds (p ∷ ps) n = leb n (p .size) || someHolds ps n
+
+-- no pool's frames hold more than eight words
+abbrev pub Small : List the-pool.Pool → Type 0
+Small ps = All (λ p. p .size ≤ 8) ps
 
 -- at most three pools, each larger than the one before and of at most 8 words; at least one frame in each, 64 in all
 abbrev pub poolFits : List the-pool.Pool → ℕ → ℕ → Bool

@@ -102,6 +102,13 @@ impl Layout {
         false
     }
 
+    // How many objects the cell has.
+    pub fn objects(&self) -> u8
+        ensures { λ r. ⌜ r ≡ plan (now (self .entry)) .objects ⌝ }
+    {
+        self.objects
+    }
+
     pub fn pools(&self) -> &[Pool]
         ensures { λ r. ⌜ now r ≡ plan (now (self .entry)) .pools ⌝ }
     {

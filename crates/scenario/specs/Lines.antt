@@ -19,6 +19,8 @@ use Rattle.scenario.specs.Cell.{Settings, Cell, Order, post, postFront, publis
 use Rattle.scenario.specs.declared.fault.Cause.{Cause}
 use Rattle.scenario.specs.declared.fault.Cause.the-variants as cause
 use Rattle.scenario.specs.declared.fault.LineFault.the-variants.{Form}
+use Rattle.scenario.specs.declared.fault.ScriptFault.{ScriptFault}
+use Rattle.scenario.specs.declared.fault.ScriptFault.the-variants.{Signal, Words, Object}
 
 -- the k-th number of a line, counted from 0
 abbrev pub field : List ℕ → ℕ → ℕ
@@ -68,3 +70,34 @@ tableLine d l ns =
             (cond (eqb l 78) (exactly 2 ns (byTables (setMarks d (field ns 0) (field ns 1))))
               (cond (eqb l 84) (exactly 2 ns (byTables (addTransition d (field ns 0) (field ns 1))))
                 (cond (eqb l 65) (exactly 4 ns (byTables (setArc d (field ns 0) (field ns 1) (field ns 2) (field ns 3)))) misshapen)))))))
+
+-- a line that has so many numbers or more
+abbrev pub atLeast : {X : Type 0} → ℕ → List ℕ → Result X Cause → Result X Cause
+atLeast k ns r = cond (leb k (length ns)) r misshapen
+
+abbrev pub byScript : {X Y : Type 0} → (X → Y) → Result X ScriptFault → Result Y Cause
+byScript f (Ok x) = Ok (f x)
+byScript f (Err e) = Err (cause.Script e)
+
+-- the signal first, 2, then the words, 1: some pool has to hold them
+unfoldable pub eventOf : Plan → ℕ → List ℕ → Result Content ScriptFault
+eventOf p signal words =
+    cond (between 1 signal 64) (cond (someHolds (p .pools) (length words)) (Ok (record { signal = signal; words = words })) (Err Words)) (Err Signal)
+
+unfoldable pub objectOf : Plan → ℕ → Result ℕ ScriptFault
+objectOf p object = cond (between 1 object (p .objects)) (Ok object) (Err Object)
+
+-- an event for an object, whose number is looked at last, 3
+abbrev pub addressed : (ℕ → Content → Order) → Result Content ScriptFault → Result ℕ ScriptFault → Result Order Cause
+addressed make (Err f) o = Err (cause.Script f)
+addressed make (Ok e) (Err f) = Err (cause.Script f)
+addressed make (Ok e) (Ok o) = Ok (make o e)
+
+-- p 112: object signal words; f 102: the same in front; b 98: signal words; r 114: signal words; g 103: times
+abbrev pub scriptLine : Plan → ℕ → List ℕ → Result Order Cause
+scriptLine p l ns =
+    cond (eqb l 112) (atLeast 2 ns (addressed post (eventOf p (field ns 1) (drop 2 ns)) (objectOf p (field ns 0))))
+    (cond (eqb l 102) (atLeast 2 ns (addressed postFront (eventOf p (field ns 1) (drop 2 ns)) (objectOf p (field ns 0))))
+      (cond (eqb l 98) (atLeast 1 ns (byScript publish (eventOf p (field ns 0) (drop 1 ns))))
+        (cond (eqb l 114) (atLeast 1 ns (byScript recycle (eventOf p (field ns 0) (drop 1 ns))))
+          (cond (eqb l 103) (exactly 1 ns (Ok (dispatch (field ns 0)))) misshapen))))

@@ -4,5 +4,6 @@ pub mod script;
 pub mod setting;
 
 mod digits;
+mod script_line;
 mod setup_line;
 mod table_line;
