@@ -24,3 +24,6 @@ pub record Spelt (bytes : List ℕ) (letter : ℕ) (ns : List ℕ) : Type 0 wher
   pub short : length bytes ≤ 80
   pub numbers : Numbers ns
   pub text : bytes ≡ written letter ns
+
+abbrev pub Misspelt : List ℕ → Type 0
+Misspelt bytes = (letter : ℕ) (ns : List ℕ) → Spelt bytes letter ns → ⊥

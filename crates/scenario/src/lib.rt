@@ -1,9 +1,12 @@
 // The scenario file: a cell and a script as text. Reading checks every line before anything may run.
 pub mod fault;
+pub mod part;
 pub mod script;
 pub mod setting;
 
 mod digits;
+mod draft;
+mod line;
 mod script_line;
 mod setup_line;
 mod table_line;
