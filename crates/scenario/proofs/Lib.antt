@@ -1,2 +1,9 @@
+pub mod Bytes
+pub mod Feeds
+pub mod Lawful
+pub mod Limited
 pub mod Numerals
+pub mod Once
+pub mod Order
+pub mod Progress
 pub mod Scanned

@@ -1,6 +1,9 @@
 pub mod Cell
 pub mod Faults
+pub mod Files
 pub mod Format
+pub mod Law
+pub mod Limits
 pub mod Lines
 pub mod Parts
 pub mod Reading

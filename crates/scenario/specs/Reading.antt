@@ -1,10 +1,12 @@
 -- How a scenario file is read, line after line.
 use mathlib.Core.Path.{_≡_}
 use mathlib.Core.Bool.{cond}
-use mathlib.Core.List.{List, [], _∷_, _++_}
+use mathlib.Core.List.{List, [], _∷_, _++_, map}
 use mathlib.Core.Logic.{_⊎_}
 use Prim.Native.Nat.{ℕ}
 use lib.Dec.{leb}
+use Rattle.std.specs.Of.Vec.{vec-items}
+use Rattle.std.specs.declared.vec.Vec.{Vec}
 use Rattle.std.specs.declared.option.Option.{Option}
 use Rattle.std.specs.declared.option.Option.the-variants.{Some, None}
 use Rattle.std.specs.declared.result.Result.{Result}
@@ -31,6 +33,9 @@ blankPage = record { part = Setup; cell = empty }
 -- a draft with the script so far
 abbrev pub drafted : Draft → List Order → Page
 drafted d script = record { part = d .part; cell = record { settings = settingOf (d .setting); drawing = drawing (d .tables); script = script } }
+
+abbrev pub pageOf : {A : Type 0} → Draft → Vec Command A → Page
+pageOf d script = drafted d (map order (vec-items script))
 
 -- what a line's answer leaves: a command goes to the end of the script
 abbrev pub outcome : Draft → List Order → Result (Option Command) Cause → Result Page Cause

@@ -1,6 +1,7 @@
 // The scenario file: a cell and a script as text. Reading checks every line before anything may run.
 pub mod fault;
 pub mod part;
+pub mod reader;
 pub mod script;
 pub mod setting;
 
