@@ -5,6 +5,7 @@ pub mod Format
 pub mod Law
 pub mod Limits
 pub mod Lines
+pub mod Listings
 pub mod Parts
 pub mod Reading
 pub mod Scanning

@@ -1,5 +1,6 @@
 // The scenario file: a cell and a script as text. Reading checks every line before anything may run.
 pub mod fault;
+pub mod listing;
 pub mod part;
 pub mod reader;
 pub mod script;
