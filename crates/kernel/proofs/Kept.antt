@@ -65,16 +65,16 @@ module _ (p q : Plan) (size count : ℕ) (is : addPool p size count ≡ Ok q) wh
       let sum = total-push (p .pools) new in
       subst PlanWithin (pool-added .1)
       (record {
-          objects = w .objects;
-          few = omega arith;
-          pools = all-push PoolWithin (p .pools) new (w .pools) (record { least = omega arith; most = small; some = some });
-          rising = rising-push (p .pools) new (w .rising) larger;
-          frames = omega arith;
-          queues = w .queues;
-          lengths = w .lengths;
-          signals = w .signals;
-          subscribers = w .subscribers;
-        })
+        objects = w .objects;
+        few = omega arith;
+        pools = all-push PoolWithin (p .pools) new (w .pools) (record { least = omega arith; most = small; some = some });
+        rising = rising-push (p .pools) new (w .rising) larger;
+        frames = omega arith;
+        queues = w .queues;
+        lengths = w .lengths;
+        signals = w .signals;
+        subscribers = w .subscribers;
+      })
 
   pub objects-kept-by-pool : q .objects ≡ p .objects
   objects-kept-by-pool = sym (ap (λ r. r .objects) (pool-added .1))
@@ -95,16 +95,16 @@ module _ (p q : Plan) (object queue deferral : ℕ) (is : setLengths p object qu
       let new : Lengths = record { queue = queue; deferral = deferral } in
       subst PlanWithin (lengths-set .1)
       (record {
-          objects = w .objects;
-          few = w .few;
-          pools = w .pools;
-          rising = w .rising;
-          frames = w .frames;
-          queues = length-replaced (p .lengths) object new ∙ w .queues;
-          lengths = all-replaced LengthsWithin (p .lengths) object new (record { least = b .0; most = b .1; deferral = leb-true deferral 8 (a .1) }) (w .lengths);
-          signals = w .signals;
-          subscribers = w .subscribers;
-        })
+        objects = w .objects;
+        few = w .few;
+        pools = w .pools;
+        rising = w .rising;
+        frames = w .frames;
+        queues = length-replaced (p .lengths) object new ∙ w .queues;
+        lengths = all-replaced LengthsWithin (p .lengths) object new (record { least = b .0; most = b .1; deferral = leb-true deferral 8 (a .1) }) (w .lengths);
+        signals = w .signals;
+        subscribers = w .subscribers;
+      })
 
   pub objects-kept-by-lengths : q .objects ≡ p .objects
   objects-kept-by-lengths = sym (ap (λ r. r .objects) (lengths-set .1))
@@ -127,16 +127,16 @@ module _ (p q : Plan) (object signal : ℕ) (is : subscribed p object signal ≡
       let b = between-bounds 1 object (p .objects) (subscriber-joined .0) in
       subst PlanWithin (subscriber-joined .1)
       (record {
-          objects = w .objects;
-          few = w .few;
-          pools = w .pools;
-          rising = w .rising;
-          frames = w .frames;
-          queues = w .queues;
-          lengths = w .lengths;
-          signals = length-changed (p .subscribers) signal (joins object) ∙ w .signals;
-          subscribers = all-changed (Among (p .objects)) (p .subscribers) signal (joins object) (joins-among (p .objects) object (b .0) (b .1) (w .objects)) (w .subscribers);
-        })
+        objects = w .objects;
+        few = w .few;
+        pools = w .pools;
+        rising = w .rising;
+        frames = w .frames;
+        queues = w .queues;
+        lengths = w .lengths;
+        signals = length-changed (p .subscribers) signal (joins object) ∙ w .signals;
+        subscribers = all-changed (Among (p .objects)) (p .subscribers) signal (joins object) (joins-among (p .objects) object (b .0) (b .1) (w .objects)) (w .subscribers);
+      })
 
   pub objects-kept-by-subscribed : q .objects ≡ p .objects
   objects-kept-by-subscribed = sym (ap (λ r. r .objects) (subscriber-joined .1))

@@ -37,7 +37,10 @@ impl Layout {
     pub fn new(objects: u8) -> Layout
         ensures { λ r. ⌜ plan r ≡ blank (min objects 8) ⌝ }
     {
-        let start = Lengths { queue: 4, deferral: 0 };
+        let start = Lengths {
+            queue: 4,
+            deferral: 0,
+        };
         Layout {
             objects: objects.min(8),
             pools: Table::new(Pool { size: 0, count: 0 }),
@@ -53,7 +56,10 @@ impl Layout {
         if size <= self.largest() || size > 8 || count == 0 || self.frames() + count as u32 > 64 {
             return Err(SetupFault::Pool);
         }
-        let pool = Pool { size: size as u8, count: count as u8 };
+        let pool = Pool {
+            size: size as u8,
+            count: count as u8,
+        };
         match self.pools.push(pool) {
             Ok(()) => Ok(()),
             Err(_) => Err(SetupFault::Pool),
@@ -70,7 +76,10 @@ impl Layout {
         if queue == 0 || queue > 16 || deferral > 8 {
             return Err(SetupFault::Length);
         }
-        let lengths = Lengths { queue: queue as u8, deferral: deferral as u8 };
+        let lengths = Lengths {
+            queue: queue as u8,
+            deferral: deferral as u8,
+        };
         self.lengths.set(object as usize, lengths);
         Ok(())
     }
@@ -85,7 +94,8 @@ impl Layout {
         let Some(heard) = self.subscribers.get(signal as usize) else {
             return Err(SetupFault::Signal);
         };
-        self.subscribers.set(signal as usize, heard.with(object as u8));
+        self.subscribers
+            .set(signal as usize, heard.with(object as u8));
         Ok(())
     }
 

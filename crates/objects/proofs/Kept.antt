@@ -111,22 +111,22 @@ unfolding addSend
 send-kept d e kind object signal word is w =
     added-kept SendWithin (withSends d) e 32 (d .sends) (sendOf kind object signal word) is (sendOf-within kind object signal word)
     (λ x new few.
-        let long = length-push (d .sends) x in
-        let grown : length (d .sends) ≤ length (d .sends ++ x ∷ []) = omega arith in
-        record {
-          fewSends = few;
-          sends = all-push SendWithin (d .sends) x (w .sends) new;
-          fewStates = w .fewStates;
-          states = λ n s at. state-carried (d .states) (d .states) (falling d w) (λ _ _. refl) _ _ n s grown (omega arith) (numbered-some (d .states) n s at .1) (w .states n s at);
-          fewRows = w .fewRows;
-          rows = all-weaker _ _ (row-more _ _ grown (length (d .states)) _ (omega arith)) (d .rows) (w .rows);
-          fewFlatRows = w .fewFlatRows;
-          flatRows = all-weaker _ _ (flat-row-more _ _ grown) (d .flatRows) (w .flatRows);
-          places = w .places;
-          marks = w .marks;
-          fewTransitions = w .fewTransitions;
-          transitions = all-weaker _ _ (firing-more _ _ grown) (d .transitions) (w .transitions);
-        })
+    let long = length-push (d .sends) x in
+    let grown : length (d .sends) ≤ length (d .sends ++ x ∷ []) = omega arith in
+    record {
+      fewSends = few;
+      sends = all-push SendWithin (d .sends) x (w .sends) new;
+      fewStates = w .fewStates;
+      states = λ n s at. state-carried (d .states) (d .states) (falling d w) (λ _ _. refl) _ _ n s grown (omega arith) (numbered-some (d .states) n s at .1) (w .states n s at);
+      fewRows = w .fewRows;
+      rows = all-weaker _ _ (row-more _ _ grown (length (d .states)) _ (omega arith)) (d .rows) (w .rows);
+      fewFlatRows = w .fewFlatRows;
+      flatRows = all-weaker _ _ (flat-row-more _ _ grown) (d .flatRows) (w .flatRows);
+      places = w .places;
+      marks = w .marks;
+      fewTransitions = w .fewTransitions;
+      transitions = all-weaker _ _ (firing-more _ _ grown) (d .transitions) (w .transitions);
+    })
 
 -- another chart, not shorter, whose states are within their limits
 states-kept : (d : Drawing) (ss : List State) → length (d .states) ≤ length ss → length ss ≤ 32 → ((n : ℕ) (s : State) → numbered ss n ≡ Some s → StateWithin (length (d .sends)) ss n s) → DrawingWithin d → DrawingWithin (withStates d ss)
@@ -158,30 +158,30 @@ module _ (d : Drawing) (w : DrawingWithin d) where
   stateOf-within parent entry exit =
       holds-tested LastWithin (leb parent (length (d .states)) && (eqb (up (d .states) 3 parent) 0 && (leb entry (length (d .sends)) && leb exit (length (d .sends))))) _
       (λ t.
-          let x : State = record { parent = parent; entry = entry; exit = exit; initial = 0 } in
-          let low : parent ≤ length (d .states) = grind (arith, tells) in
-          let top : up (d .states) 3 parent ≡ 0 = grind (arith, tells) in
-          record {
-            parent = omega arith;
-            chain = ap (λ o. up (d .states ++ x ∷ []) 3 (parentIn o)) (numbered-last (d .states) x) ∙ up-same (d .states) (d .states ++ x ∷ []) (falling d w) (parent-push x) 3 parent low ∙ top;
-            entry = grind (arith, tells);
-            exit = grind (arith, tells);
-            initial = inl refl;
-          })
+      let x : State = record { parent = parent; entry = entry; exit = exit; initial = 0 } in
+      let low : parent ≤ length (d .states) = grind (arith, tells) in
+      let top : up (d .states) 3 parent ≡ 0 = grind (arith, tells) in
+      record {
+        parent = omega arith;
+        chain = ap (λ o. up (d .states ++ x ∷ []) 3 (parentIn o)) (numbered-last (d .states) x) ∙ up-same (d .states) (d .states ++ x ∷ []) (falling d w) (parent-push x) 3 parent low ∙ top;
+        entry = grind (arith, tells);
+        exit = grind (arith, tells);
+        initial = inl refl;
+      })
 
 pub state-kept : (d e : Drawing) (parent entry exit : ℕ) → addState d parent entry exit ≡ Ok e → DrawingWithin d → DrawingWithin e
 unfolding addState
 state-kept d e parent entry exit is w =
     added-kept (LastWithin d w) (withStates d) e 32 (d .states) (stateOf d parent entry exit) is (stateOf-within d w parent entry exit)
     (λ x new few.
-        let long = length-push (d .states) x in
-        states-kept d (d .states ++ x ∷ []) (omega arith) few
-        (λ n s at.
-            ⊎-elim
-            (λ old. state-carried (d .states) (d .states ++ x ∷ []) (falling d w) (parent-push d w x) (length (d .sends)) _ n s (omega arith) (omega arith) (numbered-some (d .states) n s old .1) (w .states n s old))
-            (λ last. rw (last .0, ← last .1) new)
-            (numbered-push-cases (d .states) x n s at))
-        w)
+    let long = length-push (d .states) x in
+    states-kept d (d .states ++ x ∷ []) (omega arith) few
+    (λ n s at.
+    ⊎-elim
+    (λ old. state-carried (d .states) (d .states ++ x ∷ []) (falling d w) (parent-push d w x) (length (d .sends)) _ n s (omega arith) (omega arith) (numbered-some (d .states) n s old .1) (w .states n s old))
+    (λ last. rw (last .0, ← last .1) new)
+    (numbered-push-cases (d .states) x n s at))
+    w)
 
 -- a state within its limits, with a proper descendant as its initial target
 startingAt-within : (sends : ℕ) (ss : List State) (n target : ℕ) (s : State) → From1To (length ss) target → descends ss target n ≡ true → StateWithin sends ss n s → StateWithin sends ss n (startingAt target s)
@@ -205,14 +205,14 @@ initial-kept d e state target is w =
     let same : (m : ℕ) → m ≤ length ss → parentOf ts m ≡ parentOf ss m = λ m _. parent-startingAt target ss state m in
     subst DrawingWithin makes
     (states-kept d ts (omega arith) (omega arith)
-      (λ n s at.
-          let was = numbered-changed ss state (startingAt target) n s at in
-          let kept = state-carried ss ts (falling d w) same (length (d .sends)) (length (d .sends)) n (was .0) (omega arith) (omega arith) (numbered-some ss n (was .0) (was .1) .1) (w .states n (was .0) (was .1)) in
-          ⊎-elim
-          (λ stays. rw (← stays) kept)
-          (λ now. rw (← (now .1)) (startingAt-within (length (d .sends)) ts n target (was .0) (least, omega arith) (descends-same ss ts (falling d w) same target n low ∙ rw (← (now .0)) below) kept))
-          (was .2))
-      w)
+    (λ n s at.
+    let was = numbered-changed ss state (startingAt target) n s at in
+    let kept = state-carried ss ts (falling d w) same (length (d .sends)) (length (d .sends)) n (was .0) (omega arith) (omega arith) (numbered-some ss n (was .0) (was .1) .1) (w .states n (was .0) (was .1)) in
+    ⊎-elim
+    (λ stays. rw (← stays) kept)
+    (λ now. rw (← (now .1)) (startingAt-within (length (d .sends)) ts n target (was .0) (least, omega arith) (descends-same ss ts (falling d w) same target n low ∙ rw (← (now .0)) below) kept))
+    (was .2))
+    w)
 
 module _ (d : Drawing) where
   abbrev Acts : Action → Type 0
@@ -223,8 +223,8 @@ module _ (d : Drawing) where
       holds-either Acts (eqb kind 0) _ _
       (holds-tested Acts (between 1 target (length (d .states)) && leb send (length (d .sends))) _ (λ t. ((grind (arith, tells), grind (arith, tells)), grind (arith, tells))))
       (holds-either Acts (eqb kind 1) _ _
-        (holds-tested Acts (eqb target 0 && leb send (length (d .sends))) _ (λ t. grind (arith, tells)))
-        (holds-tested Acts (eqb kind 2) _ (λ _. holds-tested Acts (eqb target 0 && eqb send 0) _ (λ _. tt))))
+      (holds-tested Acts (eqb target 0 && leb send (length (d .sends))) _ (λ t. grind (arith, tells)))
+      (holds-tested Acts (eqb kind 2) _ (λ _. holds-tested Acts (eqb target 0 && eqb send 0) _ (λ _. tt))))
 
   abbrev Rows : Row → Type 0
   Rows = RowWithin (length (d .sends)) (length (d .states))
@@ -267,53 +267,53 @@ module _ (d : Drawing) where
   transitionOf-within signal send =
       holds-tested Fires (between 1 signal 64 && leb send (length (d .sends))) _
       (λ t.
-          record {
-            signal = (grind (arith, tells), grind (arith, tells));
-            send = grind (arith, tells);
-            places = (refl, refl);
-            takes = all-replicate (λ n. n ≤ 255) 8 0 (omega arith);
-            gives = all-replicate (λ n. n ≤ 255) 8 0 (omega arith);
-          })
+      record {
+        signal = (grind (arith, tells), grind (arith, tells));
+        send = grind (arith, tells);
+        places = (refl, refl);
+        takes = all-replicate (λ n. n ≤ 255) 8 0 (omega arith);
+        gives = all-replicate (λ n. n ≤ 255) 8 0 (omega arith);
+      })
 
 pub row-kept : (d e : Drawing) (state signal guard value kind target send : ℕ) → addRow d state signal guard value kind target send ≡ Ok e → DrawingWithin d → DrawingWithin e
 unfolding addRow
 row-kept d e state signal guard value kind target send is w =
     added-kept (Rows d) (withRows d) e 64 (d .rows) (rowOf d state signal guard value kind target send) is (rowOf-within d state signal guard value kind target send)
     (λ x new few.
-        record {
-          fewSends = w .fewSends;
-          sends = w .sends;
-          fewStates = w .fewStates;
-          states = w .states;
-          fewRows = few;
-          rows = all-push (Rows d) (d .rows) x (w .rows) new;
-          fewFlatRows = w .fewFlatRows;
-          flatRows = w .flatRows;
-          places = w .places;
-          marks = w .marks;
-          fewTransitions = w .fewTransitions;
-          transitions = w .transitions;
-        })
+    record {
+      fewSends = w .fewSends;
+      sends = w .sends;
+      fewStates = w .fewStates;
+      states = w .states;
+      fewRows = few;
+      rows = all-push (Rows d) (d .rows) x (w .rows) new;
+      fewFlatRows = w .fewFlatRows;
+      flatRows = w .flatRows;
+      places = w .places;
+      marks = w .marks;
+      fewTransitions = w .fewTransitions;
+      transitions = w .transitions;
+    })
 
 pub flat-row-kept : (d e : Drawing) (state signal kind next send : ℕ) → addFlatRow d state signal kind next send ≡ Ok e → DrawingWithin d → DrawingWithin e
 unfolding addFlatRow
 flat-row-kept d e state signal kind next send is w =
     added-kept (FlatRows d) (withFlatRows d) e 64 (d .flatRows) (flatRowOf d state signal kind next send) is (flatRowOf-within d state signal kind next send)
     (λ x new few.
-        record {
-          fewSends = w .fewSends;
-          sends = w .sends;
-          fewStates = w .fewStates;
-          states = w .states;
-          fewRows = w .fewRows;
-          rows = w .rows;
-          fewFlatRows = few;
-          flatRows = all-push (FlatRows d) (d .flatRows) x (w .flatRows) new;
-          places = w .places;
-          marks = w .marks;
-          fewTransitions = w .fewTransitions;
-          transitions = w .transitions;
-        })
+    record {
+      fewSends = w .fewSends;
+      sends = w .sends;
+      fewStates = w .fewStates;
+      states = w .states;
+      fewRows = w .fewRows;
+      rows = w .rows;
+      fewFlatRows = few;
+      flatRows = all-push (FlatRows d) (d .flatRows) x (w .flatRows) new;
+      places = w .places;
+      marks = w .marks;
+      fewTransitions = w .fewTransitions;
+      transitions = w .transitions;
+    })
 
 pub marks-kept : (d e : Drawing) (place count : ℕ) → setMarks d place count ≡ Ok e → DrawingWithin d → DrawingWithin e
 unfolding setMarks
@@ -324,19 +324,19 @@ marks-kept d e place count is w =
     let makes : withMarks d (replaced (d .marks) place count) ≡ e = cc in
     subst DrawingWithin makes
     (record {
-        fewSends = w .fewSends;
-        sends = w .sends;
-        fewStates = w .fewStates;
-        states = w .states;
-        fewRows = w .fewRows;
-        rows = w .rows;
-        fewFlatRows = w .fewFlatRows;
-        flatRows = w .flatRows;
-        places = length-replaced (d .marks) place count ∙ w .places;
-        marks = all-replaced (λ n. n ≤ 255) (d .marks) place count (grind (arith, tells)) (w .marks);
-        fewTransitions = w .fewTransitions;
-        transitions = w .transitions;
-      })
+      fewSends = w .fewSends;
+      sends = w .sends;
+      fewStates = w .fewStates;
+      states = w .states;
+      fewRows = w .fewRows;
+      rows = w .rows;
+      fewFlatRows = w .fewFlatRows;
+      flatRows = w .flatRows;
+      places = length-replaced (d .marks) place count ∙ w .places;
+      marks = all-replaced (λ n. n ≤ 255) (d .marks) place count (grind (arith, tells)) (w .marks);
+      fewTransitions = w .fewTransitions;
+      transitions = w .transitions;
+    })
 
 transitions-kept : (d : Drawing) (ts : List Firing) → length ts ≤ 8 → All (Fires d) ts → DrawingWithin d → DrawingWithin (withTransitions d ts)
 transitions-kept d ts few all w =

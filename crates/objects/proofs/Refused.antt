@@ -38,9 +38,9 @@ pub row-refused : (d : Drawing) (state signal guard value kind target send : ℕ
 row-refused d state signal guard value kind target send out =
     cond-false (between 1 state (length (d .states)) && between 1 signal 64) _ None
     (⊎-elim
-      (λ t. let both = and-parts (between 1 state (length (d .states))) (between 1 signal 64) t in
-          let s = between-bounds 1 state (length (d .states)) (both .0) in
-          let g = between-bounds 1 signal 64 (both .1) in
-          absurd (out (s .0) (s .1) (g .0) (g .1)))
-      (λ f. f)
-      (cases-bool (between 1 state (length (d .states)) && between 1 signal 64)))
+    (λ t. let both = and-parts (between 1 state (length (d .states))) (between 1 signal 64) t in
+    let s = between-bounds 1 state (length (d .states)) (both .0) in
+    let g = between-bounds 1 signal 64 (both .1) in
+    absurd (out (s .0) (s .1) (g .0) (g .1)))
+    (λ f. f)
+    (cases-bool (between 1 state (length (d .states)) && between 1 signal 64)))

@@ -77,7 +77,7 @@ abbrev pub sendOf : ℕ → ℕ → ℕ → ℕ → Option Send
 sendOf kind object signal word =
     cond (eqb kind 1) (given (between 1 object 8 && between 1 signal 64) (Post object signal word))
     (cond (eqb kind 2) (given (eqb object 0 && between 1 signal 64) (Publish signal word))
-      (cond (eqb kind 3) (given (eqb object 0 && (eqb signal 0 && eqb word 0)) Recall) None))
+    (cond (eqb kind 3) (given (eqb object 0 && (eqb signal 0 && eqb word 0)) Recall) None))
 
 abbrev pub withSends : Drawing → List Send → Drawing
 withSends d xs = record { sends = xs; states = d .states; rows = d .rows; flatRows = d .flatRows; marks = d .marks; transitions = d .transitions }
@@ -137,7 +137,7 @@ abbrev pub actionOf : Drawing → ℕ → ℕ → ℕ → Option Action
 actionOf d kind target send =
     cond (eqb kind 0) (given (between 1 target (length (d .states)) && leb send (length (d .sends))) (action.Move target send))
     (cond (eqb kind 1) (given (eqb target 0 && leb send (length (d .sends))) (action.Stay send))
-      (cond (eqb kind 2) (given (eqb target 0 && eqb send 0) action.Defer) None))
+    (cond (eqb kind 2) (given (eqb target 0 && eqb send 0) action.Defer) None))
 
 abbrev pub rowWith : ℕ → ℕ → Option Guard → Option Action → Option Row
 rowWith state signal None a = None

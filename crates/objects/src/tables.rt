@@ -34,9 +34,23 @@ impl Tables {
     pub fn new() -> Tables
         ensures { λ r. ⌜ drawing r ≡ undrawn ⌝ }
     {
-        let state = State { parent: 0, entry: 0, exit: 0, initial: 0 };
-        let row = Row { state: 0, signal: 0, guard: Guard::Always, action: Action::Defer };
-        let flat_row = FlatRow { state: 0, signal: 0, action: FlatAction::Defer };
+        let state = State {
+            parent: 0,
+            entry: 0,
+            exit: 0,
+            initial: 0,
+        };
+        let row = Row {
+            state: 0,
+            signal: 0,
+            guard: Guard::Always,
+            action: Action::Defer,
+        };
+        let flat_row = FlatRow {
+            state: 0,
+            signal: 0,
+            action: FlatAction::Defer,
+        };
         Tables {
             sends: Table::new(Send::Recall),
             states: Table::new(state),
@@ -48,7 +62,13 @@ impl Tables {
     }
 
     // The next send.
-    pub fn add_send(&mut self, kind: u16, object: u16, signal: u16, word: u16) -> Result<(), TableFault>
+    pub fn add_send(
+        &mut self,
+        kind: u16,
+        object: u16,
+        signal: u16,
+        word: u16,
+    ) -> Result<(), TableFault>
         ensures { λ r. ⌜ Follows (addSend (drawing (now (self .entry))) kind object signal word) r (drawing (now (self .entry))) (drawing (now (self .exit))) ⌝ }
     {
         self.sends.add(send_of(kind, object, signal, word))
@@ -72,12 +92,27 @@ impl Tables {
         if target as usize > self.states.len() || !self.descends(target, state) {
             return Err(TableFault::Value);
         }
-        self.states.replace(state as usize, State { initial: target as u8, ..found });
+        self.states.replace(
+            state as usize,
+            State {
+                initial: target as u8,
+                ..found
+            },
+        );
         Ok(())
     }
 
     // The next row of the chart.
-    pub fn add_row(&mut self, state: u16, signal: u16, guard: u16, value: u16, kind: u16, target: u16, send: u16) -> Result<(), TableFault>
+    pub fn add_row(
+        &mut self,
+        state: u16,
+        signal: u16,
+        guard: u16,
+        value: u16,
+        kind: u16,
+        target: u16,
+        send: u16,
+    ) -> Result<(), TableFault>
         ensures { λ r. ⌜ Follows (addRow (drawing (now (self .entry))) state signal guard value kind target send) r (drawing (now (self .entry))) (drawing (now (self .exit))) ⌝ }
     {
         let row = self.row_of(state, signal, guard, value, kind, target, send);
@@ -85,7 +120,14 @@ impl Tables {
     }
 
     // The next row of the flat object.
-    pub fn add_flat_row(&mut self, state: u16, signal: u16, kind: u16, next: u16, send: u16) -> Result<(), TableFault>
+    pub fn add_flat_row(
+        &mut self,
+        state: u16,
+        signal: u16,
+        kind: u16,
+        next: u16,
+        send: u16,
+    ) -> Result<(), TableFault>
         ensures { λ r. ⌜ Follows (addFlatRow (drawing (now (self .entry))) state signal kind next send) r (drawing (now (self .entry))) (drawing (now (self .exit))) ⌝ }
     {
         let row = self.flat_row_of(state, signal, kind, next, send);
@@ -112,7 +154,13 @@ impl Tables {
     }
 
     // What a transition takes from a place and gives to it.
-    pub fn set_arc(&mut self, transition: u16, place: u16, take: u16, give: u16) -> Result<(), TableFault>
+    pub fn set_arc(
+        &mut self,
+        transition: u16,
+        place: u16,
+        take: u16,
+        give: u16,
+    ) -> Result<(), TableFault>
         ensures { λ r. ⌜ Follows (setArc (drawing (now (self .entry))) transition place take give) r (drawing (now (self .entry))) (drawing (now (self .exit))) ⌝ }
     {
         let Some(mut found) = self.transitions.get(transition as usize) else {
@@ -139,7 +187,12 @@ impl Tables {
         }
         let entry = self.send_number(entry)?;
         let exit = self.send_number(exit)?;
-        Some(State { parent: parent as u8, entry, exit, initial: 0 })
+        Some(State {
+            parent: parent as u8,
+            entry,
+            exit,
+            initial: 0,
+        })
     }
 
     // The parent of a state, 0 at the top and for a state that is not declared.
@@ -162,7 +215,16 @@ impl Tables {
         first == above || second == above || third == above
     }
 
-    fn row_of(&self, state: u16, signal: u16, guard: u16, value: u16, kind: u16, target: u16, send: u16) -> Option<Row>
+    fn row_of(
+        &self,
+        state: u16,
+        signal: u16,
+        guard: u16,
+        value: u16,
+        kind: u16,
+        target: u16,
+        send: u16,
+    ) -> Option<Row>
         ensures { λ r. ⌜ r ≡ rowOf (drawing (now (self .entry))) state signal guard value kind target send ⌝ }
     {
         let states = self.states.len();
@@ -171,7 +233,12 @@ impl Tables {
         }
         let guard = Guard::from_numbers(guard, value)?;
         let action = self.action_of(kind, target, send)?;
-        Some(Row { state: state as u8, signal: signal as u8, guard, action })
+        Some(Row {
+            state: state as u8,
+            signal: signal as u8,
+            guard,
+            action,
+        })
     }
 
     // What a kind of row does; fields that the kind does not use are 0.
@@ -180,21 +247,35 @@ impl Tables {
     {
         let send = self.send_number(send)?;
         match (kind, target, send) {
-            (0, 1.., send) if target as usize <= self.states.len() => Some(Action::Move { target: target as u8, send }),
+            (0, 1.., send) if target as usize <= self.states.len() => Some(Action::Move {
+                target: target as u8,
+                send,
+            }),
             (1, 0, send) => Some(Action::Stay { send }),
             (2, 0, 0) => Some(Action::Defer),
             _ => None,
         }
     }
 
-    fn flat_row_of(&self, state: u16, signal: u16, kind: u16, next: u16, send: u16) -> Option<FlatRow>
+    fn flat_row_of(
+        &self,
+        state: u16,
+        signal: u16,
+        kind: u16,
+        next: u16,
+        send: u16,
+    ) -> Option<FlatRow>
         ensures { λ r. ⌜ r ≡ flatRowOf (drawing (now (self .entry))) state signal kind next send ⌝ }
     {
         if state == 0 || state > 16 || signal == 0 || signal > 64 {
             return None;
         }
         let action = self.flat_action_of(kind, next, send)?;
-        Some(FlatRow { state: state as u8, signal: signal as u8, action })
+        Some(FlatRow {
+            state: state as u8,
+            signal: signal as u8,
+            action,
+        })
     }
 
     fn flat_action_of(&self, kind: u16, next: u16, send: u16) -> Option<FlatAction>
@@ -202,7 +283,10 @@ impl Tables {
     {
         let send = self.send_number(send)?;
         match (kind, next, send) {
-            (0, 1..=16, send) => Some(FlatAction::Move { next: next as u8, send }),
+            (0, 1..=16, send) => Some(FlatAction::Move {
+                next: next as u8,
+                send,
+            }),
             (2, 0, 0) => Some(FlatAction::Defer),
             _ => None,
         }
@@ -222,14 +306,23 @@ impl Tables {
     fn send_number(&self, send: u16) -> Option<u8>
         ensures { λ r. ⌜ r ≡ sendNumber (drawing (now (self .entry))) send ⌝ }
     {
-        if send as usize <= self.sends.len() { Some(send as u8) } else { None }
+        if send as usize <= self.sends.len() {
+            Some(send as u8)
+        } else {
+            None
+        }
     }
 }
 
 fn blank_transition(signal: u8, send: u8) -> Transition
     ensures { λ r. ⌜ firing r ≡ blankFiring signal send ⌝ }
 {
-    Transition { signal, send, takes: Slots::new(0), gives: Slots::new(0) }
+    Transition {
+        signal,
+        send,
+        takes: Slots::new(0),
+        gives: Slots::new(0),
+    }
 }
 
 // A post names an object and a signal, a publish a signal, a recall nothing.
@@ -237,8 +330,15 @@ fn send_of(kind: u16, object: u16, signal: u16, word: u16) -> Option<Send>
     ensures { λ r. ⌜ r ≡ sendOf kind object signal word ⌝ }
 {
     match (kind, object, signal, word) {
-        (1, 1..=8, 1..=64, word) => Some(Send::Post { object: object as u8, signal: signal as u8, word: word as u32 }),
-        (2, 0, 1..=64, word) => Some(Send::Publish { signal: signal as u8, word: word as u32 }),
+        (1, 1..=8, 1..=64, word) => Some(Send::Post {
+            object: object as u8,
+            signal: signal as u8,
+            word: word as u32,
+        }),
+        (2, 0, 1..=64, word) => Some(Send::Publish {
+            signal: signal as u8,
+            word: word as u32,
+        }),
         (3, 0, 0, 0) => Some(Send::Recall),
         _ => None,
     }

@@ -68,17 +68,17 @@ module _ (s t : Settings) (limits : PlanWithin (s .plan)) where
       cond-both (eqb l 80) _ _ Keeps
       (λ _. planned 2 ns (addPool (s .plan) (field ns 0) (field ns 1)) (λ q is. record { within = pool-kept (s .plan) q (field ns 0) (field ns 1) is limits; objects = objects-kept-by-pool (s .plan) q (field ns 0) (field ns 1) is }))
       (λ _.
-          cond-both (eqb l 81) _ _ Keeps
-          (λ _. planned 3 ns (setLengths (s .plan) (field ns 0) (field ns 1) (field ns 2)) (λ q is. record { within = lengths-kept (s .plan) q (field ns 0) (field ns 1) (field ns 2) is limits; objects = objects-kept-by-lengths (s .plan) q (field ns 0) (field ns 1) (field ns 2) is }))
-          (λ _.
-              cond-both (eqb l 83) _ _ Keeps
-              (λ _. planned 2 ns (subscribed (s .plan) (field ns 0) (field ns 1)) (λ q is. record { within = subscribed-kept (s .plan) q (field ns 0) (field ns 1) is limits; objects = objects-kept-by-subscribed (s .plan) q (field ns 0) (field ns 1) is }))
-              (λ _.
-                  cond-both (eqb l 87) _ _ Keeps
-                  (λ _ is.
-                      let call = by-setup (withDiscipline s) (disciplineOf (field ns 0)) t (ok-passed (eqb (length ns) 1) (bySetup (withDiscipline s) (disciplineOf (field ns 0))) (cause.Line Form) t is .1) in
-                      subst (λ (u : Settings). Kept (s .plan) (u .plan)) (call .2) (record { within = limits; objects = refl }))
-                  (λ _ is. let z : _≡_ {A = ℕ} 0 1 = cc in absurd (omega arith)))))
+      cond-both (eqb l 81) _ _ Keeps
+      (λ _. planned 3 ns (setLengths (s .plan) (field ns 0) (field ns 1) (field ns 2)) (λ q is. record { within = lengths-kept (s .plan) q (field ns 0) (field ns 1) (field ns 2) is limits; objects = objects-kept-by-lengths (s .plan) q (field ns 0) (field ns 1) (field ns 2) is }))
+      (λ _.
+      cond-both (eqb l 83) _ _ Keeps
+      (λ _. planned 2 ns (subscribed (s .plan) (field ns 0) (field ns 1)) (λ q is. record { within = subscribed-kept (s .plan) q (field ns 0) (field ns 1) is limits; objects = objects-kept-by-subscribed (s .plan) q (field ns 0) (field ns 1) is }))
+      (λ _.
+      cond-both (eqb l 87) _ _ Keeps
+      (λ _ is.
+      let call = by-setup (withDiscipline s) (disciplineOf (field ns 0)) t (ok-passed (eqb (length ns) 1) (bySetup (withDiscipline s) (disciplineOf (field ns 0))) (cause.Line Form) t is .1) in
+      subst (λ (u : Settings). Kept (s .plan) (u .plan)) (call .2) (record { within = limits; objects = refl }))
+      (λ _ is. let z : _≡_ {A = ℕ} 0 1 = cc in absurd (omega arith)))))
 
 module _ (d e : Drawing) (limits : DrawingWithin d) where
   abbrev Draws : Result Drawing Cause → Type 0
@@ -91,13 +91,13 @@ module _ (d e : Drawing) (limits : DrawingWithin d) where
   tables-kept l ns =
       cond-both (eqb l 68) _ _ Draws (λ _. drawn 4 ns (addSend d (field ns 0) (field ns 1) (field ns 2) (field ns 3)) (send-kept d e (field ns 0) (field ns 1) (field ns 2) (field ns 3)))
       (λ _. cond-both (eqb l 72) _ _ Draws (λ _. drawn 3 ns (addState d (field ns 0) (field ns 1) (field ns 2)) (state-kept d e (field ns 0) (field ns 1) (field ns 2)))
-          (λ _. cond-both (eqb l 73) _ _ Draws (λ _. drawn 2 ns (setInitial d (field ns 0) (field ns 1)) (initial-kept d e (field ns 0) (field ns 1)))
-              (λ _. cond-both (eqb l 82) _ _ Draws (λ _. drawn 7 ns (addRow d (field ns 0) (field ns 1) (field ns 2) (field ns 3) (field ns 4) (field ns 5) (field ns 6)) (row-kept d e (field ns 0) (field ns 1) (field ns 2) (field ns 3) (field ns 4) (field ns 5) (field ns 6)))
-                  (λ _. cond-both (eqb l 70) _ _ Draws (λ _. drawn 5 ns (addFlatRow d (field ns 0) (field ns 1) (field ns 2) (field ns 3) (field ns 4)) (flat-row-kept d e (field ns 0) (field ns 1) (field ns 2) (field ns 3) (field ns 4)))
-                      (λ _. cond-both (eqb l 78) _ _ Draws (λ _. drawn 2 ns (setMarks d (field ns 0) (field ns 1)) (marks-kept d e (field ns 0) (field ns 1)))
-                          (λ _. cond-both (eqb l 84) _ _ Draws (λ _. drawn 2 ns (addTransition d (field ns 0) (field ns 1)) (transition-kept d e (field ns 0) (field ns 1)))
-                              (λ _. cond-both (eqb l 65) _ _ Draws (λ _. drawn 4 ns (setArc d (field ns 0) (field ns 1) (field ns 2) (field ns 3)) (arc-kept d e (field ns 0) (field ns 1) (field ns 2) (field ns 3)))
-                                  (λ _ is. let z : _≡_ {A = ℕ} 0 1 = cc in absurd (omega arith)))))))))
+      (λ _. cond-both (eqb l 73) _ _ Draws (λ _. drawn 2 ns (setInitial d (field ns 0) (field ns 1)) (initial-kept d e (field ns 0) (field ns 1)))
+      (λ _. cond-both (eqb l 82) _ _ Draws (λ _. drawn 7 ns (addRow d (field ns 0) (field ns 1) (field ns 2) (field ns 3) (field ns 4) (field ns 5) (field ns 6)) (row-kept d e (field ns 0) (field ns 1) (field ns 2) (field ns 3) (field ns 4) (field ns 5) (field ns 6)))
+      (λ _. cond-both (eqb l 70) _ _ Draws (λ _. drawn 5 ns (addFlatRow d (field ns 0) (field ns 1) (field ns 2) (field ns 3) (field ns 4)) (flat-row-kept d e (field ns 0) (field ns 1) (field ns 2) (field ns 3) (field ns 4)))
+      (λ _. cond-both (eqb l 78) _ _ Draws (λ _. drawn 2 ns (setMarks d (field ns 0) (field ns 1)) (marks-kept d e (field ns 0) (field ns 1)))
+      (λ _. cond-both (eqb l 84) _ _ Draws (λ _. drawn 2 ns (addTransition d (field ns 0) (field ns 1)) (transition-kept d e (field ns 0) (field ns 1)))
+      (λ _. cond-both (eqb l 65) _ _ Draws (λ _. drawn 4 ns (setArc d (field ns 0) (field ns 1) (field ns 2) (field ns 3)) (arc-kept d e (field ns 0) (field ns 1) (field ns 2) (field ns 3)))
+      (λ _ is. let z : _≡_ {A = ℕ} 0 1 = cc in absurd (omega arith)))))))))
 
 module _ (p : Plan) where
   event-within : (signal : ℕ) (words : List ℕ) (e : Content) → eventOf p signal words ≡ Ok e → EventWithin p e
@@ -135,10 +135,10 @@ module _ (p : Plan) where
     script-within l ns =
         cond-both (eqb l 112) _ _ Orders (λ _. at-least 2 ns _ (addressed-within post (λ n e a b. (a, b)) (eventOf p (field ns 1) (drop 2 ns)) (objectOf p (field ns 0)) (event-within (field ns 1) (drop 2 ns)) (object-within (field ns 0))))
         (λ _. cond-both (eqb l 102) _ _ Orders (λ _. at-least 2 ns _ (addressed-within postFront (λ n e a b. (a, b)) (eventOf p (field ns 1) (drop 2 ns)) (objectOf p (field ns 0)) (event-within (field ns 1) (drop 2 ns)) (object-within (field ns 0))))
-            (λ _. cond-both (eqb l 98) _ _ Orders (λ _. at-least 1 ns _ (by-script publish (λ e h. h) (eventOf p (field ns 0) (drop 1 ns)) (event-within (field ns 0) (drop 1 ns))))
-                (λ _. cond-both (eqb l 114) _ _ Orders (λ _. at-least 1 ns _ (by-script recycle (λ e h. h) (eventOf p (field ns 0) (drop 1 ns)) (event-within (field ns 0) (drop 1 ns))))
-                    (λ _. cond-both (eqb l 103) _ _ Orders (λ _ is. let h = ok-passed (eqb (length ns) 1) (Ok (dispatch (field ns 0))) (cause.Line Form) o is .1 in let same : dispatch (field ns 0) ≡ o = cc in subst (OrderWithin p) same tt)
-                        (λ _ is. let z : _≡_ {A = ℕ} 0 1 = cc in absurd (omega arith))))))
+        (λ _. cond-both (eqb l 98) _ _ Orders (λ _. at-least 1 ns _ (by-script publish (λ e h. h) (eventOf p (field ns 0) (drop 1 ns)) (event-within (field ns 0) (drop 1 ns))))
+        (λ _. cond-both (eqb l 114) _ _ Orders (λ _. at-least 1 ns _ (by-script recycle (λ e h. h) (eventOf p (field ns 0) (drop 1 ns)) (event-within (field ns 0) (drop 1 ns))))
+        (λ _. cond-both (eqb l 103) _ _ Orders (λ _ is. let h = ok-passed (eqb (length ns) 1) (Ok (dispatch (field ns 0))) (cause.Line Form) o is .1 in let same : dispatch (field ns 0) ≡ o = cc in subst (OrderWithin p) same tt)
+        (λ _ is. let z : _≡_ {A = ℕ} 0 1 = cc in absurd (omega arith))))))
 
 small : (ps : List Pool) → All PoolWithin ps → Small ps
 small [] all = tt

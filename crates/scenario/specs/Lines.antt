@@ -54,8 +54,8 @@ abbrev pub setupLine : Settings → ℕ → List ℕ → Result Settings Cause
 setupLine s l ns =
     cond (eqb l 80) (exactly 2 ns (bySetup (withPlan s) (addPool (s .plan) (field ns 0) (field ns 1))))
     (cond (eqb l 81) (exactly 3 ns (bySetup (withPlan s) (setLengths (s .plan) (field ns 0) (field ns 1) (field ns 2))))
-      (cond (eqb l 83) (exactly 2 ns (bySetup (withPlan s) (subscribed (s .plan) (field ns 0) (field ns 1))))
-        (cond (eqb l 87) (exactly 1 ns (bySetup (withDiscipline s) (disciplineOf (field ns 0)))) misshapen)))
+    (cond (eqb l 83) (exactly 2 ns (bySetup (withPlan s) (subscribed (s .plan) (field ns 0) (field ns 1))))
+    (cond (eqb l 87) (exactly 1 ns (bySetup (withDiscipline s) (disciplineOf (field ns 0)))) misshapen)))
 
 -- D 68: kind object signal word; H 72: parent entry exit; I 73: state target
 -- R 82: state signal guard value kind target send; F 70: state signal kind next send
@@ -64,12 +64,12 @@ abbrev pub tableLine : Drawing → ℕ → List ℕ → Result Drawing Cause
 tableLine d l ns =
     cond (eqb l 68) (exactly 4 ns (byTables (addSend d (field ns 0) (field ns 1) (field ns 2) (field ns 3))))
     (cond (eqb l 72) (exactly 3 ns (byTables (addState d (field ns 0) (field ns 1) (field ns 2))))
-      (cond (eqb l 73) (exactly 2 ns (byTables (setInitial d (field ns 0) (field ns 1))))
-        (cond (eqb l 82) (exactly 7 ns (byTables (addRow d (field ns 0) (field ns 1) (field ns 2) (field ns 3) (field ns 4) (field ns 5) (field ns 6))))
-          (cond (eqb l 70) (exactly 5 ns (byTables (addFlatRow d (field ns 0) (field ns 1) (field ns 2) (field ns 3) (field ns 4))))
-            (cond (eqb l 78) (exactly 2 ns (byTables (setMarks d (field ns 0) (field ns 1))))
-              (cond (eqb l 84) (exactly 2 ns (byTables (addTransition d (field ns 0) (field ns 1))))
-                (cond (eqb l 65) (exactly 4 ns (byTables (setArc d (field ns 0) (field ns 1) (field ns 2) (field ns 3)))) misshapen)))))))
+    (cond (eqb l 73) (exactly 2 ns (byTables (setInitial d (field ns 0) (field ns 1))))
+    (cond (eqb l 82) (exactly 7 ns (byTables (addRow d (field ns 0) (field ns 1) (field ns 2) (field ns 3) (field ns 4) (field ns 5) (field ns 6))))
+    (cond (eqb l 70) (exactly 5 ns (byTables (addFlatRow d (field ns 0) (field ns 1) (field ns 2) (field ns 3) (field ns 4))))
+    (cond (eqb l 78) (exactly 2 ns (byTables (setMarks d (field ns 0) (field ns 1))))
+    (cond (eqb l 84) (exactly 2 ns (byTables (addTransition d (field ns 0) (field ns 1))))
+    (cond (eqb l 65) (exactly 4 ns (byTables (setArc d (field ns 0) (field ns 1) (field ns 2) (field ns 3)))) misshapen)))))))
 
 -- a line that has so many numbers or more
 abbrev pub atLeast : {X : Type 0} → ℕ → List ℕ → Result X Cause → Result X Cause
@@ -98,6 +98,6 @@ abbrev pub scriptLine : Plan → ℕ → List ℕ → Result Order Cause
 scriptLine p l ns =
     cond (eqb l 112) (atLeast 2 ns (addressed post (eventOf p (field ns 1) (drop 2 ns)) (objectOf p (field ns 0))))
     (cond (eqb l 102) (atLeast 2 ns (addressed postFront (eventOf p (field ns 1) (drop 2 ns)) (objectOf p (field ns 0))))
-      (cond (eqb l 98) (atLeast 1 ns (byScript publish (eventOf p (field ns 0) (drop 1 ns))))
-        (cond (eqb l 114) (atLeast 1 ns (byScript recycle (eventOf p (field ns 0) (drop 1 ns))))
-          (cond (eqb l 103) (exactly 1 ns (Ok (dispatch (field ns 0)))) misshapen))))
+    (cond (eqb l 98) (atLeast 1 ns (byScript publish (eventOf p (field ns 0) (drop 1 ns))))
+    (cond (eqb l 114) (atLeast 1 ns (byScript recycle (eventOf p (field ns 0) (drop 1 ns))))
+    (cond (eqb l 103) (exactly 1 ns (Ok (dispatch (field ns 0)))) misshapen))))

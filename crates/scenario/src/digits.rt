@@ -37,7 +37,11 @@ fn value_of(digits: &[u8]) -> Option<u16>
         return None;
     }
     let value = sum_of(digits);
-    if value > 65535 { None } else { Some(value as u16) }
+    if value > 65535 {
+        None
+    } else {
+        Some(value as u16)
+    }
 }
 
 // What up to five digits write.

@@ -27,7 +27,11 @@ impl Draft {
     pub(crate) fn new() -> Draft
         ensures { λ r. ⌜ drafted r [] ≡ blankPage ⌝ }
     {
-        Draft { part: Part::Setup, setting: Setting::new(), tables: Tables::new() }
+        Draft {
+            part: Part::Setup,
+            setting: Setting::new(),
+            tables: Tables::new(),
+        }
     }
 
     // Takes the next line, and answers the command of a line of the script.

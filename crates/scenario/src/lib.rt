@@ -1,14 +1,13 @@
 // The scenario file: a cell and a script as text. Reading checks every line before anything may run.
+mod digits;
+mod draft;
 pub mod fault;
+mod line;
 pub mod listing;
 pub mod part;
 pub mod reader;
 pub mod script;
-pub mod setting;
-
-mod digits;
-mod draft;
-mod line;
 mod script_line;
+pub mod setting;
 mod setup_line;
 mod table_line;

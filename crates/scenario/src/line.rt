@@ -26,6 +26,9 @@ impl Line {
         let Some(numbers) = numbers(text) else {
             return None;
         };
-        Some(Line { letter: *letter as char, numbers })
+        Some(Line {
+            letter: *letter as char,
+            numbers,
+        })
     }
 }

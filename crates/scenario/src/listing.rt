@@ -47,7 +47,7 @@ fn line(heap: Global, letter: char, numbers: &[u16]) -> Result<String, AllocErro
 }
 
 // What is printed of a faulty file.
-fn fault_line(heap: Global, fault: Fault) -> Result<String, AllocError>
+pub fn fault_line(heap: Global, fault: Fault) -> Result<String, AllocError>
     ensures { λ r. ⌜ made r (λ s. string-bytes s ≡ faultLine fault) ⌝ }
 {
     let layer = fault.cause.layer() as u16;
@@ -56,7 +56,7 @@ fn fault_line(heap: Global, fault: Fault) -> Result<String, AllocError>
 }
 
 // What is printed of the frames of each pool.
-fn frames_line(heap: Global, pools: &[Pool]) -> Result<String, AllocError>
+pub fn frames_line(heap: Global, pools: &[Pool]) -> Result<String, AllocError>
     ensures { λ r. ⌜ made r (λ s. string-bytes s ≡ framesLine (now (pools .entry))) ⌝ }
 {
     let mut counts = Vec::new(heap);

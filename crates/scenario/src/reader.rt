@@ -39,7 +39,10 @@ pub impl From<FileFault> for ReadError as ReadErrorFromFile {
     ghost converts = { λ f r. r ≡ error.Faulty (fileFault f) };
 
     fn from(fault: FileFault) -> ReadError {
-        ReadError::Faulty(Fault { line: 0, cause: Cause::File(fault) })
+        ReadError::Faulty(Fault {
+            line: 0,
+            cause: Cause::File(fault),
+        })
     }
 }
 
@@ -64,7 +67,11 @@ impl Reader {
         ensures page { λ r. ⌜ pageOf (r .draft) (r .script) ≡ blankPage ⌝ }
         ensures none { λ r. ⌜ r .lines ≡ 0 ⌝ }
     {
-        Reader { draft: Draft::new(), script: Vec::new(heap), lines: 0 }
+        Reader {
+            draft: Draft::new(),
+            script: Vec::new(heap),
+            lines: 0,
+        }
     }
 
     // Takes the next line, or answers its fault with its number.
@@ -77,7 +84,10 @@ impl Reader {
         self.lines += 1;
         let line = match self.draft.line(bytes) {
             Ok(line) => line,
-            Err(cause) => return Err(ReadError::Faulty(Fault { line: self.lines, cause })),
+            Err(cause) => return Err(ReadError::Faulty(Fault {
+                line: self.lines,
+                cause,
+            })),
         };
         match line {
             Some(command) => Ok(self.script.push(command)?),
@@ -114,6 +124,14 @@ pub fn read(heap: Global, bytes: &[u8]) -> Result<Scenario, ReadError>
             start = i + 1;
         }
     }
-    let Reader { draft, script, lines: _ } = reader;
-    Ok(Scenario { setting: draft.setting, tables: draft.tables, script })
+    let Reader {
+        draft,
+        script,
+        lines: _,
+    } = reader;
+    Ok(Scenario {
+        setting: draft.setting,
+        tables: draft.tables,
+        script,
+    })
 }

@@ -31,8 +31,12 @@ pub(crate) fn script_line(layout: &Layout, letter: char, numbers: &[u16]) -> Res
             let object = object_of(layout, *object)?;
             Ok(Command::PostFront { object, event })
         }
-        ('b', [_, ..]) => Ok(Command::Publish { event: event_at(layout, numbers, 0)? }),
-        ('r', [_, ..]) => Ok(Command::Recycle { event: event_at(layout, numbers, 0)? }),
+        ('b', [_, ..]) => Ok(Command::Publish {
+            event: event_at(layout, numbers, 0)?,
+        }),
+        ('r', [_, ..]) => Ok(Command::Recycle {
+            event: event_at(layout, numbers, 0)?,
+        }),
         ('g', [times]) => Ok(Command::Dispatch { times: *times }),
         _ => Err(LineFault::Form.into()),
     }

@@ -16,11 +16,30 @@ pub(crate) fn table_line(tables: &mut Tables, letter: char, numbers: &[u16]) -> 
         ('D', [kind, object, signal, word]) => tables.add_send(*kind, *object, *signal, *word)?,
         ('H', [parent, entry, exit]) => tables.add_state(*parent, *entry, *exit)?,
         ('I', [state, target]) => tables.set_initial(*state, *target)?,
-        ('R', [state, signal, guard, value, kind, target, send]) => tables.add_row(*state, *signal, *guard, *value, *kind, *target, *send)?,
-        ('F', [state, signal, kind, next, send]) => tables.add_flat_row(*state, *signal, *kind, *next, *send)?,
+        ('R', [state, signal, guard, value, kind, target, send]) => tables.add_row(
+            *state,
+            *signal,
+            *guard,
+            *value,
+            *kind,
+            *target,
+            *send,
+        )?,
+        ('F', [state, signal, kind, next, send]) => tables.add_flat_row(
+            *state,
+            *signal,
+            *kind,
+            *next,
+            *send,
+        )?,
         ('N', [place, marks]) => tables.set_marks(*place, *marks)?,
         ('T', [signal, send]) => tables.add_transition(*signal, *send)?,
-        ('A', [transition, place, take, give]) => tables.set_arc(*transition, *place, *take, *give)?,
+        ('A', [transition, place, take, give]) => tables.set_arc(
+            *transition,
+            *place,
+            *take,
+            *give,
+        )?,
         _ => return Err(LineFault::Form.into()),
     }
     Ok(())

@@ -43,7 +43,6 @@ module _ {T : Type 0} (xs : List T) where
   replaced-out zero x out = refl
   replaced-out (suc n) x out = set-past xs n x (past n out)
 
-
 -- a number has a value just where it lies between 1 and the count of the values
 pub numbered-none : {T : Type 0} (xs : List T) (n : ℕ) → numbered xs n ≡ None → 0 < n → n ≤ length xs → ⊥
 numbered-none xs zero none some low = omega arith

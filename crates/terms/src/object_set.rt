@@ -17,7 +17,9 @@ impl ObjectSet {
         if object == 0 || object > 8 {
             return self;
         }
-        ObjectSet { bits: self.bits | (1 << (object - 1)) }
+        ObjectSet {
+            bits: self.bits | (1 << (object - 1)),
+        }
     }
 
     pub fn contains(self, object: u8) -> bool

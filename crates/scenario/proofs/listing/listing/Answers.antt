@@ -33,7 +33,7 @@ returns-in-Continue-frames-line c =
         c .in-Ok .ensures tt .answer,
         (
           nil-from-length (map order (vec-items script)) (length-map (vec-items script) order ∙ sym (script .ok .0) ∙ eqb-true (vec-len script) 0 (sym (c .if-not-is-empty .ensures tt))),
-          c .in-Continue-frames-line .ensures tt ∙ ap (λ (ps : List Pool). framesLine ps) (c .pools .ensures)
+          c .in-Continue-frames-line .ensures tt ∙ ap (λ (ps : List Pool). framesLine ps) (c .pools .ensures),
         ),
       );
       law = c .in-Ok .ensures tt .law;

@@ -14,8 +14,8 @@ returns c =
     record {
       short = omega arith;
       ended =
-        elim (c .else-len-gt0 .came) [
-          else-len-gt0·by·then-len-gt0·else-bytes-len-ne10 w ↦ last-is 10 (c .args .bytes .now) 0 (w .if-len-gt0 .taken) ∙ w .if-bytes-len-ne10 .left
-        | else-len-gt0·by·else-len-gt0 w ↦ ap (lastByte 10) (nil-from-length (c .args .bytes .now) (omega (arith, w .if-len-gt0 .left)))
-        ];
+          elim (c .else-len-gt0 .came) [
+            | else-len-gt0·by·then-len-gt0·else-bytes-len-ne10 w ↦ last-is 10 (c .args .bytes .now) 0 (w .if-len-gt0 .taken) ∙ w .if-bytes-len-ne10 .left
+            | else-len-gt0·by·else-len-gt0 w ↦ ap (lastByte 10) (nil-from-length (c .args .bytes .now) (omega (arith, w .if-len-gt0 .left)))
+          ];
     }

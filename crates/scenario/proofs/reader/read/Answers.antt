@@ -36,8 +36,8 @@ returns-in-Break-take c =
     let p = err-from-errBy (c .from-residual-in-Break-take .result) (c .from-residual-in-Break-take .ensures .1) in
     record {
       answer =
-        subst (Told (c .args .bytes .now)) (sym (p .1 ∙ ap Err (p .2)))
-        (unless-so (c .in-Break-take .field-0 .0) (c .in-Break-take .ensures tt .line) (λ f said. inr (c .in-Continue-check-whole .ensures tt, fault (c .loop-i .inv) (c .loop-i-test .taken) (c .if-b-eq10 .taken) f (said .0 ∙ c .take .ensures .count) (said .1))));
+          subst (Told (c .args .bytes .now)) (sym (p .1 ∙ ap Err (p .2)))
+          (unless-so (c .in-Break-take .field-0 .0) (c .in-Break-take .ensures tt .line) (λ f said. inr (c .in-Continue-check-whole .ensures tt, fault (c .loop-i .inv) (c .loop-i-test .taken) (c .if-b-eq10 .taken) f (said .0 ∙ c .take .ensures .count) (said .1))));
       law = lawful (c .args .bytes .now);
     }
 
@@ -48,14 +48,14 @@ Reached bytes start i r = Progress bytes start i (r .lines) (pageOf (r .draft) (
 pub loop-i-again : need.loop-i-again
 loop-i-again c =
     elim (c .if-b-eq10 .came) [
-      then-b-eq10·in-Continue-take w ↦
-        subst (λ (n : ℕ). Reached (c .args .bytes .now) n (c .loop-i .i + 1) (c .if-b-eq10 .reader)) (sym (w .start-is))
-        (subst (λ (r : Reader). Reached (c .args .bytes .now) (c .loop-i .i + 1) (c .loop-i .i + 1) r) (sym (w .reader-is))
+      | then-b-eq10·in-Continue-take w ↦
+          subst (λ (n : ℕ). Reached (c .args .bytes .now) n (c .loop-i .i + 1) (c .if-b-eq10 .reader)) (sym (w .start-is))
+          (subst (λ (r : Reader). Reached (c .args .bytes .now) (c .loop-i .i + 1) (c .loop-i .i + 1) r) (sym (w .reader-is))
           (subst (λ (n : ℕ). Progress (c .args .bytes .now) (c .loop-i .i + 1) (c .loop-i .i + 1) n (pageOf (w .take .last .self .draft) (w .take .last .self .script))) (sym (w .take .ensures .count))
-            (feed (c .loop-i .inv) (c .loop-i-test .taken) (w .if-b-eq10 .taken) (pageOf (w .take .last .self .draft) (w .take .last .self .script)) (w .in-Continue-take .ensures tt .line))))
-    | else-b-eq10 w ↦
-        subst (λ (n : ℕ). Reached (c .args .bytes .now) n (c .loop-i .i + 1) (c .if-b-eq10 .reader)) (sym (w .start-is))
-        (subst (λ (r : Reader). Reached (c .args .bytes .now) (c .loop-i .start) (c .loop-i .i + 1) r) (sym (w .reader-is)) (no-feed (c .loop-i .inv) (c .loop-i-test .taken) (w .if-b-eq10 .left)))
+          (feed (c .loop-i .inv) (c .loop-i-test .taken) (w .if-b-eq10 .taken) (pageOf (w .take .last .self .draft) (w .take .last .self .script)) (w .in-Continue-take .ensures tt .line))))
+      | else-b-eq10 w ↦
+          subst (λ (n : ℕ). Reached (c .args .bytes .now) n (c .loop-i .i + 1) (c .if-b-eq10 .reader)) (sym (w .start-is))
+          (subst (λ (r : Reader). Reached (c .args .bytes .now) (c .loop-i .start) (c .loop-i .i + 1) r) (sym (w .reader-is)) (no-feed (c .loop-i .inv) (c .loop-i-test .taken) (w .if-b-eq10 .left)))
     ]
 
 pub returns : need.returns
