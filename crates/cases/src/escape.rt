@@ -6,7 +6,7 @@ ghost use Rattle.std.specs.Options.{Cases as BySome};
 use std::alloc::AllocError;
 use std::alloc::Refused;
 
-pub enum Trouble {
+pub(crate) enum Trouble {
     Malformed,
     Memory,
 }
@@ -24,7 +24,7 @@ pub impl<T: Drop> From<Refused<T>> for Trouble as TroubleFromRefused {
 }
 
 // What stands before the first b and what stands behind it.
-pub fn cut(text: &[u8], b: u8) -> Option<(&[u8], &[u8])>
+pub(crate) fn cut(text: &[u8], b: u8) -> Option<(&[u8], &[u8])>
     ensures { λ r. ⌜ BySome r (Unit {0}) (λ p. length (now (p .0)) + length (now (p .1)) < length (now (text .entry))) ⌝ }
 {
     for (i, x) in text.iter().enumerate() {
@@ -90,7 +90,7 @@ fn count_of(digits: &[u8]) -> u32 {
     count
 }
 
-pub fn expand(text: &[u8], out: &mut Vec<u8>) -> Result<(), Trouble> {
+pub(crate) fn expand(text: &[u8], out: &mut Vec<u8>) -> Result<(), Trouble> {
     let mut rest = text;
     while let Some((before, inside)) = cut(rest, b'{') {
         plain(before, out)?;

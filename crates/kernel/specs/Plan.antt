@@ -6,6 +6,8 @@ use Prim.Native.Nat.{ℕ, _+_, _≤_}
 use lib.Dec.{eqb, ltb, leb}
 use lib.ListN.{length, replicate}
 use Rattle.std.specs.shelf.Lists.{All}
+use Rattle.std.specs.declared.option.Option.{Option}
+use Rattle.std.specs.declared.option.Option.the-variants.{Some, None}
 use Rattle.std.specs.declared.result.Result.{Result}
 use Rattle.std.specs.declared.result.Result.the-variants.{Ok, Err}
 use Rattle.terms.specs.declared.object_set.ObjectSet.{ObjectSet}
@@ -64,26 +66,35 @@ someHolds (p ∷ ps) n = leb n (p .size) || someHolds ps n
 abbrev pub Small : List the-pool.Pool → Type 0
 Small ps = All (λ p. p .size ≤ 8) ps
 
--- at most three pools, each larger than the one before and of at most 8 words; at least one frame in each, 64 in all
-abbrev pub poolFits : List the-pool.Pool → ℕ → ℕ → Bool
-poolFits ps size count = ltb (length ps) 3 && (ltb (largest ps) size && (leb size 8 && (leb 1 count && leb (total ps + count) 64)))
+-- a pool that may follow: larger than the one before and of at most 8 words, with at least one frame, and 64 in all
+unfoldable pub nextPool : List the-pool.Pool → ℕ → ℕ → Option the-pool.Pool
+nextPool ps size count =
+    cond (ltb (largest ps) size && (leb size 8 && (leb 1 count && leb (total ps + count) 64))) (Some (record { size = size; count = count })) None
 
-unfoldable pub addPool : Plan → ℕ → ℕ → Result Plan SetupFault
-addPool p size count =
-    cond (poolFits (p .pools) size count) (Ok (withPools p (p .pools ++ (record { size = size; count = count }) ∷ []))) (Err Pool)
+-- at most three pools: a fourth is refused as a pool outside the limits is
+abbrev pub withNext : Plan → Option the-pool.Pool → Result Plan SetupFault
+withNext p None = Err Pool
+withNext p (Some pool) = cond (ltb (length (p .pools)) 3) (Ok (withPools p (p .pools ++ pool ∷ []))) (Err Pool)
 
--- the object first, then the lengths: 1 to 16 places in the queue, 0 to 8 in the deferral queue
-unfoldable pub setLengths : Plan → ℕ → ℕ → ℕ → Result Plan SetupFault
+abbrev pub addPool : Plan → ℕ → ℕ → Result Plan SetupFault
+addPool p size count = withNext p (nextPool (p .pools) size count)
+
+-- 1 to 16 places in the queue, 0 to 8 in the deferral queue
+abbrev pub lengthsFit : ℕ → ℕ → Bool
+lengthsFit queue deferral = between 1 queue 16 && leb deferral 8
+
+-- the object first, then the lengths
+abbrev pub setLengths : Plan → ℕ → ℕ → ℕ → Result Plan SetupFault
 setLengths p object queue deferral =
     cond (between 1 object (p .objects))
-    (cond (between 1 queue 16 && leb deferral 8) (Ok (withLengths p (replaced (p .lengths) object (record { queue = queue; deferral = deferral })))) (Err Length))
+    (cond (lengthsFit queue deferral) (Ok (withLengths p (replaced (p .lengths) object (record { queue = queue; deferral = deferral })))) (Err Length))
     (Err Object)
 
-unfoldable pub disciplineOf : ℕ → Result Discipline SetupFault
+abbrev pub disciplineOf : ℕ → Result Discipline SetupFault
 disciplineOf n = cond (eqb n 0) (Ok Strict) (cond (eqb n 1) (Ok Rotating) (Err Value))
 
 -- the object first, then the signal
-unfoldable pub subscribed : Plan → ℕ → ℕ → Result Plan SetupFault
+abbrev pub subscribed : Plan → ℕ → ℕ → Result Plan SetupFault
 subscribed p object signal =
     cond (between 1 object (p .objects))
     (cond (between 1 signal 64) (Ok (withSubscribers p (changed (p .subscribers) signal (joins object)))) (Err Signal))

@@ -1,10 +1,13 @@
 // What is set up before a kernel opens: pools of frames, the lengths of the objects' queues, and who hears which
 // signal. A refused call leaves everything as it was.
 ghost use mathlib.Core.Path.{_≡_};
+ghost use mathlib.Core.Bool.{cond};
 ghost use Prim.Native.Nat.{_+_, _<_, _≤_, min};
 ghost use Rattle.terms.specs.Calls.{Follows};
-ghost use Rattle.terms.specs.Entries.{entries};
-ghost use Rattle.kernel.specs.Plan.{plan, blank, addPool, setLengths, subscribed, someHolds, total, largest};
+ghost use Rattle.terms.specs.Entries.{entries, changed};
+ghost use Rattle.terms.specs.Ranges.{between};
+ghost use Rattle.terms.specs.Sets.{joins};
+ghost use Rattle.kernel.specs.Plan.{plan, blank, nextPool, addPool, setLengths, subscribed, withSubscribers, someHolds, total, largest};
 use crate::fault::SetupFault;
 use terms::object_set::ObjectSet;
 use terms::slots::Slots;
@@ -53,12 +56,8 @@ impl Layout {
     pub fn add_pool(&mut self, size: u16, count: u16) -> Result<(), SetupFault>
         ensures { λ r. ⌜ Follows (addPool (plan (now (self .entry))) size count) r (plan (now (self .entry))) (plan (now (self .exit))) ⌝ }
     {
-        if size <= self.largest() || size > 8 || count == 0 || self.frames() + count as u32 > 64 {
+        let Some(pool) = self.next_pool(size, count) else {
             return Err(SetupFault::Pool);
-        }
-        let pool = Pool {
-            size: size as u8,
-            count: count as u8,
         };
         match self.pools.push(pool) {
             Ok(()) => Ok(()),
@@ -91,11 +90,9 @@ impl Layout {
         if object == 0 || object > self.objects as u16 {
             return Err(SetupFault::Object);
         }
-        let Some(heard) = self.subscribers.get(signal as usize) else {
+        if !self.join(object as u8, signal) {
             return Err(SetupFault::Signal);
-        };
-        self.subscribers
-            .set(signal as usize, heard.with(object as u8));
+        }
         Ok(())
     }
 
@@ -103,13 +100,7 @@ impl Layout {
     pub fn holds(&self, words: usize) -> bool
         ensures { λ r. ⌜ r ≡ someHolds (plan (now (self .entry)) .pools) words ⌝ }
     {
-        let pools = self.pools.as_slice();
-        for pool in pools {
-            if words <= pool.size as usize {
-                return true;
-            }
-        }
-        false
+        some_holds(self.pools(), words)
     }
 
     // How many objects the cell has.
@@ -123,6 +114,31 @@ impl Layout {
         ensures { λ r. ⌜ now r ≡ plan (now (self .entry)) .pools ⌝ }
     {
         self.pools.as_slice()
+    }
+
+    // A pool that may follow those before it: larger, and with frames that there is still room for.
+    fn next_pool(&self, size: u16, count: u16) -> Option<Pool>
+        ensures { λ r. ⌜ r ≡ nextPool (entries (now (self .entry) .pools)) size count ⌝ }
+    {
+        if size <= self.largest() || size > 8 || count == 0 || self.frames() + count as u32 > 64 {
+            return None;
+        }
+        Some(Pool {
+            size: size as u8,
+            count: count as u8,
+        })
+    }
+
+    // Adds an object to the subscribers of a signal; false where there is no such signal.
+    fn join(&mut self, object: u8, signal: u16) -> bool
+        ensures heard { λ r. ⌜ r ≡ between 1 signal 64 ⌝ }
+        ensures after { λ r. ⌜ plan (now (self .exit)) ≡ cond r (withSubscribers (plan (now (self .entry))) (changed (plan (now (self .entry)) .subscribers) signal (joins object))) (plan (now (self .entry))) ⌝ }
+    {
+        let Some(heard) = self.subscribers.get(signal as usize) else {
+            return false;
+        };
+        self.subscribers.set(signal as usize, heard.with(object));
+        true
     }
 
     // The size of the largest pool, 0 with none.
@@ -140,11 +156,22 @@ impl Layout {
         ensures sum { λ r. ⌜ r ≡ total (entries (now (self .entry) .pools)) ⌝ }
         ensures bound { λ r. ⌜ r < 1000 ⌝ }
     {
-        let pools = self.pools.as_slice();
+        let pools = self.pools();
         let mut sum: u32 = 0;
         for pool in pools {
             sum += pool.count as u32;
         }
         sum
     }
+}
+
+fn some_holds(pools: &[Pool], words: usize) -> bool
+    ensures { λ r. ⌜ r ≡ someHolds (now (pools .entry)) words ⌝ }
+{
+    for pool in pools {
+        if words <= pool.size as usize {
+            return true;
+        }
+    }
+    false
 }

@@ -176,7 +176,7 @@ addFlatRow d state signal kind next send = made (withFlatRows d) (added 64 (d .f
 abbrev pub withMarks : Drawing → List ℕ → Drawing
 withMarks d xs = record { sends = d .sends; states = d .states; rows = d .rows; flatRows = d .flatRows; marks = xs; transitions = d .transitions }
 
-unfoldable pub setMarks : Drawing → ℕ → ℕ → Result Drawing TableFault
+abbrev pub setMarks : Drawing → ℕ → ℕ → Result Drawing TableFault
 setMarks d place count = cond (between 1 place 8 && leb count 255) (Ok (withMarks d (replaced (d .marks) place count))) (Err Value)
 
 abbrev pub withTransitions : Drawing → List Firing → Drawing

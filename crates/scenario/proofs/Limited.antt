@@ -17,7 +17,7 @@ use Rattle.std.specs.shelf.Lists.{All}
 use Rattle.terms.specs.Events.{Content}
 use Rattle.terms.specs.Ranges.{between}
 use Rattle.terms.specs.declared.table.TableFault.{TableFault}
-use Rattle.terms.proofs.Held.{ok-passed}
+use Rattle.terms.proofs.Added.{ok-passed}
 use Rattle.terms.proofs.Ranges.{between-bounds}
 use Rattle.kernel.specs.Limits.{PlanWithin, PoolWithin}
 use Rattle.kernel.specs.Plan.{Plan, Small, addPool, setLengths, subscribed, someHolds, disciplineOf}

@@ -29,3 +29,8 @@ module _ {T : Type 0} where
 
   pub added-full : (N : ℕ) (xs : List T) (x : T) (f : TableFault) → added N xs (Some x) ≡ Err f → N ≤ length xs
   added-full N xs x f is = ltb-false (length xs) N (crowded (ltb (length xs) N) xs x f is)
+
+-- what a test let pass
+pub ok-passed : {A F : Type 0} (b : Bool) (r : Result A F) (f : F) (y : A) → cond b r (Err f) ≡ Ok y → (b ≡ true) × (r ≡ Ok y)
+ok-passed true r f y is = (refl, is)
+ok-passed false r f y is = let z : _≡_ {A = ℕ} 0 1 = cc in absurd (omega arith)

@@ -1,6 +1,6 @@
 // A set of objects: an 8-bit number in which object o counts 2^(o - 1).
 ghost use mathlib.Core.Path.{_≡_};
-ghost use Rattle.terms.specs.Sets.{member, joins};
+ghost use Rattle.terms.specs.Sets.{weight, member, joins};
 
 #[derive(Clone, Copy)]
 pub struct ObjectSet {
@@ -14,17 +14,30 @@ impl ObjectSet {
     pub fn with(self, object: u8) -> ObjectSet
         ensures { λ r. ⌜ r ≡ joins object self ⌝ }
     {
-        if object == 0 || object > 8 {
-            return self;
-        }
         ObjectSet {
-            bits: self.bits | (1 << (object - 1)),
+            bits: self.bits | weight_of(object),
         }
     }
 
     pub fn contains(self, object: u8) -> bool
         ensures { λ r. ⌜ r ≡ member object (self .bits) ⌝ }
     {
-        object != 0 && object <= 8 && (self.bits >> (object - 1)) & 1 == 1
+        is_member(object, self.bits)
     }
+}
+
+// What an object counts in a set, 0 for a number outside 1 to 8.
+fn weight_of(object: u8) -> u8
+    ensures { λ r. ⌜ r ≡ weight object ⌝ }
+{
+    if object == 0 || object > 8 {
+        return 0;
+    }
+    1 << (object - 1)
+}
+
+fn is_member(object: u8, bits: u8) -> bool
+    ensures { λ r. ⌜ r ≡ member object bits ⌝ }
+{
+    object != 0 && object <= 8 && (bits >> (object - 1)) & 1 == 1
 }

@@ -1,9 +1,9 @@
 // The calls on slots.
 ghost use mathlib.Core.Path.{_≡_};
-ghost use Prim.Native.Nat.{_≤_};
 ghost use lib.ListN.{replicate};
 ghost use Rattle.terms.specs.Entries.{values, numbered, replaced, among};
 use super::Slots;
+use crate::numbers::value_at;
 
 impl<T: Copy, const N: usize> Slots<T, N> {
     // N times the same value.
@@ -18,16 +18,7 @@ impl<T: Copy, const N: usize> Slots<T, N> {
     pub fn get(&self, number: usize) -> Option<T>
         ensures { λ r. ⌜ r ≡ numbered (values (now (self .entry))) number ⌝ }
     {
-        if number == 0 || number > N {
-            return None;
-        }
-        Some(self.values[number - 1])
-    }
-
-    pub fn as_slice(&self) -> &[T]
-        ensures { λ r. ⌜ now r ≡ values (now (self .entry)) ⌝ }
-    {
-        &self.values
+        value_at(&self.values, number)
     }
 
     // Puts a value in the place of the one with that number; false where there is none.

@@ -9,6 +9,7 @@ ghost use Rattle.terms.specs.Refusals.{tableRefusalOf};
 ghost use Rattle.terms.specs.Entries.{entries, numbered, replaced, among, added};
 use super::Table;
 use super::TableFault;
+use crate::numbers::value_at;
 use crate::refusal::Refusal;
 
 impl<T: Copy, const N: usize> Table<T, N> {
@@ -26,16 +27,13 @@ impl<T: Copy, const N: usize> Table<T, N> {
         ensures count { λ r. ⌜ r ≡ length (entries (now (self .entry))) ⌝ }
         ensures most { λ r. ⌜ r ≤ N ⌝ }
     {
-        self.len
+        self.as_slice().len()
     }
 
     pub fn get(&self, number: usize) -> Option<T>
         ensures { λ r. ⌜ r ≡ numbered (entries (now (self .entry))) number ⌝ }
     {
-        if number == 0 || number > self.len {
-            return None;
-        }
-        Some(self.places[number - 1])
+        value_at(self.as_slice(), number)
     }
 
     pub fn as_slice(&self) -> &[T]
