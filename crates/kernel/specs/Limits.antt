@@ -1,4 +1,4 @@
--- The limits that every set-up keeps.
+-- The limits of a set-up.
 use mathlib.Core.Path.{_≡_}
 use mathlib.Core.List.{List, [], _∷_}
 use Prim.Native.Nat.{ℕ, _<_, _≤_, _^_}

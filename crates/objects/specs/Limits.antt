@@ -1,4 +1,4 @@
--- The limits that the tables of a cell keep.
+-- The limits of the tables of a cell.
 use mathlib.Core.Path.{_≡_}
 use mathlib.Core.Bool.{true}
 use mathlib.Core.List.{List}

@@ -12,6 +12,7 @@ use Rattle.scenario.proofs.Feeds.{lines-fed, lines-unfed}
 use Rattle.scenario.proofs.Limited.{blank-page-within, sound-kept}
 use Rattle.scenario.proofs.Once.{file-once}
 use Rattle.scenario.proofs.Order.{refused-first, first-refused, accepted-sound, sound-accepted}
+use Rattle.scenario.proofs.Total.{file-some}
 
 read-within : (bytes : List ℕ) (c : Cell) → FileIs bytes (Ok c) → CellWithin c
 read-within bytes c is =
@@ -23,6 +24,7 @@ lawful bytes =
     record {
       lines = λ whole. lines-fed bytes (whole .ended);
       unbroken = lines-unfed bytes;
+      some = file-some bytes;
       one = file-once bytes;
       refused = refused-first bytes;
       faulty = first-refused bytes;

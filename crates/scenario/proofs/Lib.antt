@@ -7,3 +7,4 @@ pub mod Once
 pub mod Order
 pub mod Progress
 pub mod Scanned
+pub mod Total

@@ -74,7 +74,7 @@ module _ (text digits rest : List ℕ) (is : text ≡ 32 ∷ (digits ++ rest)) (
 pub start : (text : List ℕ) → length text ≤ 79 → Sofar text [] text
 start text short = record { read = refl; small = tt; room = omega arith; only = λ ms small e. (ms, refl, small, e) }
 
-no-first : (rest ks : List ℕ) → 0 < length rest → NoFirst rest → Numbers ks → spaced ks ≡ rest → ⊥
+pub no-first : (rest ks : List ℕ) → 0 < length rest → NoFirst rest → Numbers ks → spaced ks ≡ rest → ⊥
 no-first rest [] more none small e = omega (arith, ap length e)
 no-first rest (k ∷ ks) more none small e = none k ks (small .0) e
 

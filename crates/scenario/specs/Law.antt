@@ -1,4 +1,4 @@
--- What a customer may rely on: what it means that a scenario file is read, or refused.
+-- What it means that a scenario file is read, or refused.
 use mathlib.Core.Path.{_≡_}
 use mathlib.Core.List.{List, [], _∷_, _++_}
 use mathlib.Core.Logic.{_⊎_}
@@ -47,7 +47,8 @@ pub record Law (bytes : List ℕ) : Type 0 where
   -- the lines, with a line feed behind each, are the file, and no line has one inside
   pub lines : Whole bytes → joined (λ l. l ++ 10 ∷ []) (linesOf bytes) ≡ bytes
   pub unbroken : All (λ l. All (λ b. b ≡ 10 → ⊥) l) (linesOf bytes)
-  -- a file has one answer
+  -- a file has an answer, and one only
+  pub some : (a : Result Cell Fault) × FileIs bytes a
   pub one : (a b : Result Cell Fault) → FileIs bytes a → FileIs bytes b → a ≡ b
   -- it is refused exactly when the file as a whole or some line is at fault, and then for the first
   pub refused : (f : Fault) → FileIs bytes (Err f) → WholeAtFault bytes f ⊎ FirstFault bytes f

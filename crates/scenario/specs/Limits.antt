@@ -1,4 +1,4 @@
--- The limits that a scenario keeps.
+-- The limits of a scenario.
 use mathlib.Core.Path.{_≡_}
 use mathlib.Core.Bool.{true}
 use mathlib.Core.List.{List, []}

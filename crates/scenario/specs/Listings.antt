@@ -18,9 +18,13 @@ use Rattle.scenario.specs.declared.listing.ListError.the-variants.{Script, Mem
 abbrev pub faultLine : Fault → List ℕ
 faultLine f = written 33 (layerOf (f .cause) ∷ numberOf (refusalOf (f .cause)) ∷ f .line ∷ []) ++ 10 ∷ []
 
--- `z` and each pool's frames, in the order of the pools
+-- each pool's frames, in the order of the pools
+abbrev pub frameCounts : List Pool → List ℕ
+frameCounts ps = map (λ p. p .count) ps
+
+-- `z` and each pool's frames
 abbrev pub framesLine : List Pool → List ℕ
-framesLine ps = written 122 (map (λ p. p .count) ps) ++ 10 ∷ []
+framesLine ps = written 122 (frameCounts ps) ++ 10 ∷ []
 
 -- the listing of a faulty file, and of a sound file with no script
 abbrev pub Lists : Result Cell Fault → List ℕ → Type 0

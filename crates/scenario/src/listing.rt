@@ -2,13 +2,14 @@
 ghost use mathlib.Core.Path.{_≡_};
 ghost use mathlib.Core.List.{[], _∷_, _++_};
 ghost use Prim.Native.Nat.{_<_};
+ghost use Rattle.std.specs.Of.Vec.{vec-items};
 ghost use Rattle.std.specs.Of.String.{string-bytes};
 ghost use Rattle.std.specs.Results.{Cases};
 ghost use Rattle.std.specs.Vec.{made};
 ghost use Rattle.scenario.specs.declared.listing.ListError.the-variants as error;
 ghost use Rattle.scenario.specs.Format.{written};
 ghost use Rattle.scenario.specs.Law.{Law};
-ghost use Rattle.scenario.specs.Listings.{faultLine, framesLine, Listed, Unlisted};
+ghost use Rattle.scenario.specs.Listings.{faultLine, frameCounts, framesLine, Listed, Unlisted};
 use crate::fault::Fault;
 use crate::reader::ReadError;
 use crate::reader::read;
@@ -59,11 +60,18 @@ pub fn fault_line(heap: Global, fault: Fault) -> Result<String, AllocError>
 pub fn frames_line(heap: Global, pools: &[Pool]) -> Result<String, AllocError>
     ensures { λ r. ⌜ made r (λ s. string-bytes s ≡ framesLine (now (pools .entry))) ⌝ }
 {
+    let counts = counts_of(heap, pools)?;
+    line(heap, 'z', counts.as_slice())
+}
+
+fn counts_of(heap: Global, pools: &[Pool]) -> Result<Vec<u16>, AllocError>
+    ensures { λ r. ⌜ made r (λ v. vec-items v ≡ frameCounts (now (pools .entry))) ⌝ }
+{
     let mut counts = Vec::new(heap);
     for pool in pools {
         counts.push(pool.count as u16)?;
     }
-    line(heap, 'z', counts.as_slice())
+    Ok(counts)
 }
 
 // The listing of a scenario file: its fault, or with no script its frames. Scripts are not run yet.
@@ -78,7 +86,9 @@ pub fn listing(heap: Global, bytes: &[u8]) -> Result<String, ListError>
             }
             Ok(frames_line(heap, scenario.setting.layout.pools())?)
         }
-        Err(ReadError::Faulty(fault)) => Ok(fault_line(heap, fault)?),
-        Err(ReadError::Memory) => Err(ListError::Memory),
+        Err(error) => match error {
+            ReadError::Faulty(fault) => Ok(fault_line(heap, fault)?),
+            ReadError::Memory => Err(ListError::Memory),
+        },
     }
 }

@@ -1,6 +1,6 @@
 // The parts of a scenario file, in their order, and the letters of each.
 ghost use mathlib.Core.Path.{_≡_};
-ghost use Rattle.scenario.specs.Parts.{rankOf, partOf};
+ghost use Rattle.scenario.specs.Parts.{rankOf, partOf, setupLetter, tableLetter, scriptLetter};
 
 #[derive(Clone, Copy)]
 pub enum Part {
@@ -14,11 +14,14 @@ impl Part {
     pub fn of_letter(letter: char) -> Option<Part>
         ensures { λ r. ⌜ r ≡ partOf letter ⌝ }
     {
-        match letter {
-            'P' | 'Q' | 'S' | 'W' => Some(Part::Setup),
-            'D' | 'H' | 'I' | 'R' | 'F' | 'N' | 'T' | 'A' => Some(Part::Tables),
-            'p' | 'f' | 'b' | 'r' | 'g' => Some(Part::Script),
-            _ => None,
+        if is_setup(letter) {
+            Some(Part::Setup)
+        } else if is_table(letter) {
+            Some(Part::Tables)
+        } else if is_script(letter) {
+            Some(Part::Script)
+        } else {
+            None
         }
     }
 
@@ -32,4 +35,22 @@ impl Part {
             Part::Script => 3,
         }
     }
+}
+
+fn is_setup(letter: char) -> bool
+    ensures { λ r. ⌜ r ≡ setupLetter letter ⌝ }
+{
+    matches!(letter, 'P' | 'Q' | 'S' | 'W')
+}
+
+fn is_table(letter: char) -> bool
+    ensures { λ r. ⌜ r ≡ tableLetter letter ⌝ }
+{
+    matches!(letter, 'D' | 'H' | 'I' | 'R' | 'F' | 'N' | 'T' | 'A')
+}
+
+fn is_script(letter: char) -> bool
+    ensures { λ r. ⌜ r ≡ scriptLetter letter ⌝ }
+{
+    matches!(letter, 'p' | 'f' | 'b' | 'r' | 'g')
 }

@@ -116,6 +116,15 @@ pub fn read(heap: Global, bytes: &[u8]) -> Result<Scenario, ReadError>
     ensures law { λ _. ⌜ Law (now (bytes .entry)) ⌝ }
 {
     check_whole(bytes)?;
+    read_lines(heap, bytes)
+}
+
+// Reads the lines of a file that is sound as a whole.
+fn read_lines(heap: Global, bytes: &[u8]) -> Result<Scenario, ReadError>
+    requires { ⌜ Whole (now bytes) ⌝ }
+    ensures answer { λ r. ⌜ Told (now (bytes .entry)) r ⌝ }
+    ensures law { λ _. ⌜ Law (now (bytes .entry)) ⌝ }
+{
     let mut reader = Reader::new(heap);
     let mut start = 0;
     for (i, b) in bytes.iter().enumerate() {

@@ -18,7 +18,7 @@ numberOf Pool = 4
 numberOf Length = 5
 -- a file too long, or not empty and without a last line feed
 numberOf File = 6
--- a line's form: letter, number, count of numbers, or order of parts
+-- a line's form: its length, letter, numbers, count of numbers, or part
 numberOf Form = 7
 -- another value out of range, or not declared
 numberOf Value = 8

@@ -1,15 +1,16 @@
-use mathlib.Core.Path.{_≡_, refl, sym, ap, _∙_}
+use mathlib.Core.Path.{_≡_, sym, ap, subst, _∙_}
 use mathlib.Core.List.{List, [], map}
 use native.Mathlib.Omega.{arith}
 use lib.ListN.{length, length-map}
 use Rattle.std.proofs.shelf.Lists.{nil-from-length}
 use Rattle.std.proofs.shelf.Tests.{eqb-true, eqb-false}
 use Rattle.std.specs.Of.Vec.{vec-items, vec-len}
-use Rattle.std.specs.declared.result.Result.the-variants.{Ok}
+use Rattle.std.specs.declared.result.Result.the-variants.{Ok, Err}
 use Rattle.kernel.specs.declared.layout.Pool.{Pool}
 use Rattle.scenario.specs.Cell.{order}
-use Rattle.scenario.specs.Files.{cellOf}
+use Rattle.scenario.specs.Files.{FileIs, Unless, cellOf}
 use Rattle.scenario.specs.Listings.{framesLine}
+use Rattle.scenario.specs.declared.reader.ReadError.{ReadError}
 use Rattle.scenario.proofs.listing.listing.Needs as need
 
 pub returns-then-not-is-empty : need.returns-then-not-is-empty
@@ -37,4 +38,15 @@ returns-in-Continue-frames-line c =
         ),
       );
       law = c .in-Ok .ensures tt .law;
+    }
+
+pub returns-in-Continue-fault-line : need.returns-in-Continue-fault-line
+returns-in-Continue-fault-line c =
+    record {
+      text = (
+        Err (c .in-Faulty .fault),
+        subst (λ (e : ReadError). Unless e (λ f. FileIs (c .args .bytes .now) (Err f))) (c .in-Faulty .is) (c .in-Err .ensures tt .answer),
+        c .in-Continue-fault-line .ensures tt,
+      );
+      law = c .in-Err .ensures tt .law;
     }
