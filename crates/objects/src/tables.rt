@@ -21,12 +21,12 @@ use terms::table::TableFault;
 
 #[derive(Clone, Copy)]
 pub struct Tables {
-    sends: Table<Send, 32>,
-    states: Table<State, 32>,
-    rows: Table<Row, 64>,
-    flat_rows: Table<FlatRow, 64>,
-    marks: Slots<u8, 8>,
-    transitions: Table<Transition, 8>,
+    pub(crate) sends: Table<Send, 32>,
+    pub(crate) states: Table<State, 32>,
+    pub(crate) rows: Table<Row, 64>,
+    pub(crate) flat_rows: Table<FlatRow, 64>,
+    pub(crate) marks: Slots<u8, 8>,
+    pub(crate) transitions: Table<Transition, 8>,
 }
 
 impl Tables {

@@ -17,3 +17,7 @@ member (suc k) s = ltb k 8 && eqb (s / 2 ^ k % 2) 1
 -- the set with object o too
 abbrev pub joins : ℕ → ObjectSet → ObjectSet
 joins o s = record { bits = bitOr (s .bits) (weight o) }
+
+-- the set as a number
+abbrev pub bitsOf : ObjectSet → ℕ
+bitsOf s = s .bits

@@ -1,6 +1,6 @@
 // A set of objects: an 8-bit number in which object o counts 2^(o - 1).
 ghost use mathlib.Core.Path.{_≡_};
-ghost use Rattle.terms.specs.Sets.{weight, member, joins};
+ghost use Rattle.terms.specs.Sets.{weight, member, joins, bitsOf};
 
 #[derive(Clone, Copy)]
 pub struct ObjectSet {
@@ -17,6 +17,14 @@ impl ObjectSet {
         ObjectSet {
             bits: self.bits | weight_of(object),
         }
+    }
+
+    // The set as a number.
+    pub fn bits(self) -> u8
+        ensures { λ r. ⌜ r ≡ bitsOf self ⌝ }
+    {
+        let ObjectSet { bits } = self;
+        bits
     }
 
     pub fn contains(self, object: u8) -> bool
