@@ -1,5 +1,7 @@
 // Runs a table of scenario files on standard input and says which are answered otherwise than expected.
 // A case is a line: the expected answer, a tab, and the file's bytes. Lines that begin with `#` are comments.
+#![tactic(auto)]
+
 mod escape;
 
 use anyhow::anyhow;

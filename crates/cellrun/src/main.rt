@@ -1,4 +1,6 @@
 // Reads a scenario file on standard input and writes its listing on standard output.
+#![tactic(auto)]
+
 use anyhow::anyhow;
 use scenario::listing::{ListError, listing};
 use std::io::Read;

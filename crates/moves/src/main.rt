@@ -15,6 +15,8 @@
 //
 // Before the blocks it prints in which state the worked chart of five states starts, and what the two policies pick from
 // a row of sets, one set after the other.
+#![tactic(auto)]
+
 mod text;
 mod trio;
 

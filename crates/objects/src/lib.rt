@@ -1,4 +1,6 @@
 // The objects of a cell: what a crew means, the three kinds of object, and joined crews.
+#![tactic(auto)]
+
 pub mod chart_object;
 pub mod crew;
 mod finding;

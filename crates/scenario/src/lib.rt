@@ -1,4 +1,6 @@
 // The scenario file: a cell and a script as text. Reading checks every line before anything may run.
+#![tactic(auto)]
+
 mod digits;
 mod draft;
 pub mod fault;

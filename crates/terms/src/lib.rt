@@ -1,4 +1,6 @@
 // The words that every layer speaks: refusals, sends, events, sets of objects, and tables in fixed memory.
+#![tactic(auto)]
+
 pub mod event;
 mod numbers;
 pub mod object_set;

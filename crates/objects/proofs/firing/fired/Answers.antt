@@ -5,17 +5,17 @@ use Rattle.tables.specs.Drawing.{firing}
 use Rattle.objects.proofs.Marks.{after, fired_not, after_more, fired_all}
 use Rattle.objects.proofs.firing.fired.Goals as goal
 
-pub returns-in-err-place-after : goal.returns-in-err-place-after
-returns-in-err-place-after c =
-    let was = c.in-err-place-after.was in
+pub returns-in_err-place_after : goal.returns-in_err-place_after
+returns-in_err-place_after c =
+    let was = c.in_err-place_after.was in
     let none : after (values c.args.marks.now) (firing c.args.transition.now) c.loop-place.place ≡ None = cc in
     ap (option_map values) c.from-residual.ensures ∙ sym (fired_not (values c.args.marks.now) (firing c.args.transition.now) c.loop-place.place (omega arith) (omega arith) none)
 
 pub loop-place-preserved : goal.loop-place-preserved
 loop-place-preserved c =
-    let was = c.in-ok-place-after.was in
-    let here : after (values c.args.marks.now) (firing c.args.transition.now) c.loop-place.place ≡ Some c.in-ok-place-after.field-0 = cc in
-    after_more (values c.args.marks.now) (firing c.args.transition.now) c.loop-place.place (values c.loop-place.after) (values c.set.new.self) c.in-ok-place-after.field-0 (omega arith) (omega arith) c.loop-place.invariant here c.set.ensures.after
+    let was = c.in_ok-place_after.was in
+    let here : after (values c.args.marks.now) (firing c.args.transition.now) c.loop-place.place ≡ Some c.in_ok-place_after.field-0 = cc in
+    after_more (values c.args.marks.now) (firing c.args.transition.now) c.loop-place.place (values c.loop-place.after) (values c.set.new.self) c.in_ok-place_after.field-0 (omega arith) (omega arith) c.loop-place.invariant here c.set.ensures.after
 
 pub returns : goal.returns
 returns c =

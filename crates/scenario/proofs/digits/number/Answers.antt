@@ -12,10 +12,10 @@ parts c = (
   subst Undigit (sym c.split-at.ensures.back) (undigit_at c.in-Some.after.now c.digit-run.result c.digit-run.ensures.stops),
 )
 
-pub returns-in-default-value-of : goal.returns-in-default-value-of
-returns-in-default-value-of c =
-    let p = parts (goal.at.returns-in-default-value-of c).After-split-at in
-    first_none c.args.text.now c.split-at.result.0.now c.split-at.result.1.now p.0 p.1 p.2 c.in-default-value-of.ensures
+pub returns-in_default-value_of : goal.returns-in_default-value_of
+returns-in_default-value_of c =
+    let p = parts (goal.at.returns-in_default-value_of c).After-split-at in
+    first_none c.args.text.now c.split-at.result.0.now c.split-at.result.1.now p.0 p.1 p.2 c.in_default-value_of.ensures
 
 pub returns : goal.returns
 returns c =

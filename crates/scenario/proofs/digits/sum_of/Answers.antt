@@ -6,14 +6,14 @@ use Rattle.std.specs.Str.Parse.{digits_value}
 use Rattle.scenario.proofs.Numerals.{digit_value_lem, front_small}
 use Rattle.scenario.proofs.digits.sum_of.Goals as goal
 
-pub overflow-mul-sum : goal.overflow-mul-sum
-overflow-mul-sum c = omega (arith, front_small c.args.digits.now c.loop-digit.digit-index c.requires.digits c.requires.few (omega arith))
+pub overflow_mul-sum : goal.overflow_mul-sum
+overflow_mul-sum c = omega (arith, front_small c.args.digits.now c.loop-digit.digit-index c.requires.digits c.requires.few (omega arith))
 
-pub overflow-sub-sum : goal.overflow-sub-sum
-overflow-sub-sum c = omega (arith, digit_at c.args.digits.now c.loop-digit.digit-index c.requires.digits (omega arith))
+pub overflow_sub-sum : goal.overflow_sub-sum
+overflow_sub-sum c = omega (arith, digit_at c.args.digits.now c.loop-digit.digit-index c.requires.digits (omega arith))
 
-pub overflow-add-sum : goal.overflow-add-sum
-overflow-add-sum c =
+pub overflow_add-sum : goal.overflow_add-sum
+overflow_add-sum c =
     omega (arith, front_small c.args.digits.now c.loop-digit.digit-index c.requires.digits c.requires.few (omega arith), digit_at c.args.digits.now c.loop-digit.digit-index c.requires.digits (omega arith))
 
 pub loop-digit-preserved : goal.loop-digit-preserved

@@ -6,7 +6,7 @@ use Rattle.scenario.proofs.listing.counts_of.Goals as goal
 
 pub loop-pool-preserved : goal.loop-pool-preserved
 loop-pool-preserved c =
-    c.in-ok-push.ensures.items ∙ ap (λ (l : List ℕ). l ++ (get_or c.args.pools.now c.loop-pool.pool-index (record { size = 0; count = 0 })).count ∷ []) c.loop-pool.invariant
+    c.in_ok-push.ensures.items ∙ ap (λ (l : List ℕ). l ++ (get_or c.args.pools.now c.loop-pool.pool-index (record { size = 0; count = 0 })).count ∷ []) c.loop-pool.invariant
     ∙ sym (map_more (λ (p : Pool). p.count) c.args.pools.now c.loop-pool.pool-index (record { size = 0; count = 0 }) c.loop-pool-test.true)
 
 pub returns : goal.returns

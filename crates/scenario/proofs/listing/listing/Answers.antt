@@ -21,8 +21,8 @@ returns-then-not-is-empty c =
       law = c.in-Ok.ensures.law;
     }
 
-pub returns-in-ok-frames-line : goal.returns-in-ok-frames-line
-returns-in-ok-frames-line c =
+pub returns-in_ok-frames_line : goal.returns-in_ok-frames_line
+returns-in_ok-frames_line c =
     let script = c.in-Ok.scenario.script in
     record {
       text = (
@@ -30,19 +30,19 @@ returns-in-ok-frames-line c =
         c.in-Ok.ensures.answer,
         (
           nil_from_length (map order (vec_items script)) (length-map (vec_items script) order ∙ sym script.ok.0 ∙ eqb-true (vec_len script) 0 (sym c.if-not-is-empty.ensures)),
-          c.in-ok-frames-line.ensures ∙ ap (λ (ps : List Pool). frames_line ps) c.pools.ensures,
+          c.in_ok-frames_line.ensures ∙ ap (λ (ps : List Pool). frames_line ps) c.pools.ensures,
         ),
       );
       law = c.in-Ok.ensures.law;
     }
 
-pub returns-in-ok-fault-line : goal.returns-in-ok-fault-line
-returns-in-ok-fault-line c =
+pub returns-in_ok-fault_line : goal.returns-in_ok-fault_line
+returns-in_ok-fault_line c =
     record {
       text = (
         Err c.in-Faulty.fault,
         subst (λ (e : ReadError). Unless e (λ f. FileIs c.args.bytes.now (Err f))) c.in-Faulty.is c.in-Err.ensures.answer,
-        c.in-ok-fault-line.ensures,
+        c.in_ok-fault_line.ensures,
       );
       law = c.in-Err.ensures.law;
     }

@@ -8,7 +8,7 @@ use Rattle.scenario.proofs.Lawful.{lawful}
 use Rattle.scenario.proofs.Limited.{page_small}
 use Rattle.scenario.proofs.Progress.{Progress, at_start, at_end, no_feed, feed, fault, unless_so}
 use Rattle.scenario.proofs.reader.read_lines.Goals as goal
-use Rattle.scenario.proofs.reader.read_lines.Goals.{then-b-eq10+in-ok-take, else-b-eq10}
+use Rattle.scenario.proofs.reader.read_lines.Goals.{then-b-eq10+in_ok-take, else-b-eq10}
 
 pub loop-i-init : goal.loop-i-init
 loop-i-init c =
@@ -18,13 +18,13 @@ loop-i-init c =
 pub take-requires : goal.take-requires
 take-requires c = record { few = omega (arith, c.loop-i.invariant.few, c.requires.short); small = page_small _ c.loop-i.invariant.limits }
 
-pub returns-in-err-take : goal.returns-in-err-take
-returns-in-err-take c =
+pub returns-in_err-take : goal.returns-in_err-take
+returns-in_err-take c =
     let p = err_from_is_err_and c.from-residual.result c.from-residual.ensures.1 in
     record {
       answer =
           subst (Told c.args.bytes.now) (sym (p.1 ∙ ap Err p.2))
-          (unless_so c.in-err-take.field-0.0 c.in-err-take.ensures.line (λ f said. inr (c.requires, fault c.loop-i.invariant c.loop-i-test.true c.if-b-eq10.true f (said.0 ∙ c.take.ensures.count) said.1)));
+          (unless_so c.in_err-take.field-0.0 c.in_err-take.ensures.line (λ f said. inr (c.requires, fault c.loop-i.invariant c.loop-i-test.true c.if-b-eq10.true f (said.0 ∙ c.take.ensures.count) said.1)));
       law = lawful c.args.bytes.now;
     }
 
@@ -35,11 +35,11 @@ Reached bytes start i r = Progress bytes start i r.lines (page_of r.draft r.scri
 pub loop-i-preserved : goal.loop-i-preserved
 loop-i-preserved c =
     elim c.if-b-eq10.branch [
-      | then-b-eq10+in-ok-take w ↦
+      | then-b-eq10+in_ok-take w ↦
           subst (λ (n : ℕ). Reached c.args.bytes.now n (c.loop-i.i + 1) c.if-b-eq10.reader) (sym w.start-is)
           (subst (λ (r : Reader). Reached c.args.bytes.now (c.loop-i.i + 1) (c.loop-i.i + 1) r) (sym w.reader-is)
           (subst (λ (n : ℕ). Progress c.args.bytes.now (c.loop-i.i + 1) (c.loop-i.i + 1) n (page_of w.take.new.self.draft w.take.new.self.script)) (sym w.take.ensures.count)
-          (feed c.loop-i.invariant c.loop-i-test.true w.if-b-eq10.true (page_of w.take.new.self.draft w.take.new.self.script) w.in-ok-take.ensures.line)))
+          (feed c.loop-i.invariant c.loop-i-test.true w.if-b-eq10.true (page_of w.take.new.self.draft w.take.new.self.script) w.in_ok-take.ensures.line)))
       | else-b-eq10 w ↦
           subst (λ (n : ℕ). Reached c.args.bytes.now n (c.loop-i.i + 1) c.if-b-eq10.reader) (sym w.start-is)
           (subst (λ (r : Reader). Reached c.args.bytes.now c.loop-i.start (c.loop-i.i + 1) r) (sym w.reader-is) (no_feed c.loop-i.invariant c.loop-i-test.true w.if-b-eq10.false))

@@ -17,10 +17,10 @@ unfolding event_of
 returns-then-not-holds c = rw (between_true 1 c.args.signal 64 (grind arith) (omega arith), sym c.if-not-holds.ensures) refl
 
 -- some pool holds the words, so they are at most eight, and no word is one too many
-pub returns-in-default : goal.returns-in-default
-returns-in-default c =
+pub returns-in_default : goal.returns-in_default
+returns-in_default c =
     let few = held_few (plan c.args.layout.now).pools (length c.args.words.now) c.requires (sym c.if-not-holds.ensures) in
-    let full = added_full 8 (entries c.loop-word.event.words) _ c.in-default.field-0 c.in-default.ensures.words.0 in
+    let full = added_full 8 (entries c.loop-word.event.words) _ c.in_default.field-0 c.in_default.ensures.words.0 in
     absurd (omega (arith, ap length c.loop-word.invariant.1, length-take-le c.loop-word.word-index c.args.words.now (omega arith)))
 
 pub loop-word-preserved : goal.loop-word-preserved

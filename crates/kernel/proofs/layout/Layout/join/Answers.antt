@@ -7,9 +7,9 @@ use Rattle.terms.proofs.Numbered.{numbered_none, numbered_some, replaced-changed
 use Rattle.kernel.specs.Plan.{plan, with_subscribers}
 use Rattle.kernel.proofs.layout.Layout.join.Goals as goal
 
-pub returns-in-default : goal.returns-in-default
-returns-in-default c =
-    let none = sym c.get.ensures ∙ c.in-default.is in
+pub returns-in_default : goal.returns-in_default
+returns-in_default c =
+    let none = sym c.get.ensures ∙ c.in_default.is in
     record {
       heard = sym (between_false 1 c.args.signal 64 (λ low high. numbered_none c.args.self.now.subscribers.values c.args.signal none low (omega arith)));
       after = refl;

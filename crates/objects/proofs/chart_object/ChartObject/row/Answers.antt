@@ -18,7 +18,7 @@ loop-state-preserved c =
     let rows = entries c.args.self.now.chart.rows in
     let xs = c.as-slice-state-items.result.now in
     let first = first_of (applies (get_or xs c.loop-state.state-index 0) c.args.signal c.args.word) in
-    sym (decided_later rows xs c.loop-state.state-index c.args.signal c.args.word c.loop-state-test.true (ap first (sym c.as-slice.ensures) ∙ sym c.first.ensures ∙ c.in-default.is)) ∙ c.loop-state.invariant
+    sym (decided_later rows xs c.loop-state.state-index c.args.signal c.args.word c.loop-state-test.true (ap first (sym c.as-slice.ensures) ∙ sym c.first.ensures ∙ c.in_default.is)) ∙ c.loop-state.invariant
 
 pub returns : goal.returns
 returns c =

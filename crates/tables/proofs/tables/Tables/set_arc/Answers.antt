@@ -6,8 +6,8 @@ use Rattle.tables.proofs.Refused.{arc_undeclared}
 use Rattle.tables.proofs.Taken.{arc_taken}
 use Rattle.tables.proofs.tables.Tables.set_arc.Goals as goal
 
-pub returns-in-default : goal.returns-in-default
-returns-in-default c = (arc_undeclared (drawing c.args.self.now) (entries c.args.self.now.transitions) c.args.transition c.args.place c.args.take c.args.give refl (sym c.get.ensures ∙ c.in-default.is), refl)
+pub returns-in_default : goal.returns-in_default
+returns-in_default c = (arc_undeclared (drawing c.args.self.now) (entries c.args.self.now.transitions) c.args.transition c.args.place c.args.take c.args.give refl (sym c.get.ensures ∙ c.in_default.is), refl)
 
 pub returns : goal.returns
 returns c =

@@ -6,8 +6,8 @@ use Rattle.tables.proofs.Refused.{initial_undeclared}
 use Rattle.tables.proofs.Taken.{initial_taken}
 use Rattle.tables.proofs.tables.Tables.set_initial.Goals as goal
 
-pub returns-in-default : goal.returns-in-default
-returns-in-default c = (initial_undeclared (drawing c.args.self.now) c.args.state c.args.target (sym c.get.ensures ∙ c.in-default.is), refl)
+pub returns-in_default : goal.returns-in_default
+returns-in_default c = (initial_undeclared (drawing c.args.self.now) c.args.state c.args.target (sym c.get.ensures ∙ c.in_default.is), refl)
 
 pub returns : goal.returns
 returns c =

@@ -1,6 +1,0 @@
-use Rattle.std.proofs.Common.{zero-le}
-use lib.ListN.{length-replicate}
-use Rattle.terms.proofs.table.Table.new.Goals as goal
-
-pub invariant-of-result : goal.invariant-of-result
-invariant-of-result g c = (length-replicate g.row.N c.args.filler, (zero-le, tt))
