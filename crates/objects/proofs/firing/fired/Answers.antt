@@ -9,7 +9,7 @@ pub returns-in_err-place_after : goal.returns-in_err-place_after
 returns-in_err-place_after c =
     let was = c.in_err-place_after.was in
     let none : after (values c.args.marks.now) (firing c.args.transition.now) c.loop-place.place ≡ None = cc in
-    ap (option_map values) c.from-residual.ensures ∙ sym (fired_not (values c.args.marks.now) (firing c.args.transition.now) c.loop-place.place (omega arith) (omega arith) none)
+    ap (option_map values) c.from_residual.ensures ∙ sym (fired_not (values c.args.marks.now) (firing c.args.transition.now) c.loop-place.place (omega arith) (omega arith) none)
 
 pub loop-place-preserved : goal.loop-place-preserved
 loop-place-preserved c =

@@ -9,11 +9,11 @@ use Rattle.objects.proofs.ways.below.Goals as goal
 
 pub loop-state-preserved : goal.loop-state-preserved
 loop-state-preserved c =
-    let xs = c.as-slice-state-items.result.now in
+    let xs = c.as_slice-state-items.result.now in
     let here = get_or xs c.loop-state.state-index 0 in
     let inner = entries c.loop-state.inner in
     let more = entries c.push.new.self in
-    let long = ap length c.as-slice-state-items.ensures in
+    let long = ap length c.as_slice-state-items.ensures in
     let few = few_entries c.args.chain in
     let new = added_with_room 4 inner more here c.push.result c.push.ensures (omega (arith, c.loop-state.invariant.1)) in
     let longer = ap length new ∙ length_push inner here in
@@ -21,8 +21,8 @@ loop-state-preserved c =
 
 pub returns-after-loop-state : goal.returns-after-loop-state
 returns-after-loop-state c =
-    sym (below_all c.args.base c.as-slice-state-items.result.now (entries c.loop-state.inner) c.loop-state.state-index c.loop-state-test.false) ∙ c.loop-state.invariant.0 ∙ ap (below c.args.base) c.as-slice-state-items.ensures
+    sym (below_all c.args.base c.as_slice-state-items.result.now (entries c.loop-state.inner) c.loop-state.state-index c.loop-state-test.false) ∙ c.loop-state.invariant.0 ∙ ap (below c.args.base) c.as_slice-state-items.ensures
 
 pub returns-then-state-base : goal.returns-then-state-base
 returns-then-state-base c =
-    sym (below_here c.args.base c.as-slice-state-items.result.now (entries c.loop-state.inner) c.loop-state.state-index c.loop-state-test.true c.if-state-base.true) ∙ c.loop-state.invariant.0 ∙ ap (below c.args.base) c.as-slice-state-items.ensures
+    sym (below_here c.args.base c.as_slice-state-items.result.now (entries c.loop-state.inner) c.loop-state.state-index c.loop-state-test.true c.if-state-base.true) ∙ c.loop-state.invariant.0 ∙ ap (below c.args.base) c.as_slice-state-items.ensures

@@ -5,9 +5,9 @@ use Rattle.terms.proofs.Added.{added_with_room}
 use Rattle.objects.specs.Charts.{climb, chain}
 use Rattle.objects.specs.Walks.{climbed, climb_top, climb_done}
 use Rattle.objects.proofs.ways.chain.Goals as goal
-use Rattle.objects.proofs.ways.chain.Goals.{After-parent-of-state}
+use Rattle.objects.proofs.ways.chain.Goals.{After-parent_of-state}
 
-pushed : (c : After-parent-of-state) → entries c.push.new.self ≡ entries c.loop-state.chain ++ c.loop-state.state ∷ []
+pushed : (c : After-parent_of-state) → entries c.push.new.self ≡ entries c.loop-state.chain ++ c.loop-state.state ∷ []
 pushed c = added_with_room 4 (entries c.loop-state.chain) (entries c.push.new.self) c.loop-state.state c.push.result c.push.ensures (omega arith)
 
 pub loop-state-init : goal.loop-state-init
@@ -25,8 +25,8 @@ loop-state-preserved c =
     let ss = entries c.args.states.now in
     let xs = entries c.loop-state.chain in
     let ys = entries c.push.new.self in (
-      ap (λ (s : ℕ). ys ++ climb ss (4 - length ys) s) c.parent-of-state.ensures ∙ climbed ss xs ys c.loop-state.state c.loop-state-test.true (omega arith) (pushed c) ∙ c.loop-state.invariant.0,
-      c.parent-of-state.type-inv,
+      ap (λ (s : ℕ). ys ++ climb ss (4 - length ys) s) c.parent_of-state.ensures ∙ climbed ss xs ys c.loop-state.state c.loop-state-test.true (omega arith) (pushed c) ∙ c.loop-state.invariant.0,
+      c.parent_of-state.type_inv,
     )
 
 pub returns-after-loop-state : goal.returns-after-loop-state

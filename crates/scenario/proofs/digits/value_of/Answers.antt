@@ -13,4 +13,4 @@ returns-then-value-gt65535 c = λ n small is. omega (arith, only n c.args.digits
 
 pub returns-else-value-gt65535 : goal.returns-else-value-gt65535
 returns-else-value-gt65535 c =
-    (omega arith, ap decimal c.sum-of-value.ensures ∙ just c.args.digits.now c.requires (grind arith) (λ more led. ⊎_elim (λ one. omega (arith, one.1)) (λ other. other led) c.else-digits-eq48.either) (omega arith))
+    (omega arith, ap decimal c.sum_of-value.ensures ∙ just c.args.digits.now c.requires (grind arith) (λ more led. ⊎_elim (λ one. omega (arith, one.1)) (λ other. other led) c.else-digits-eq48.either) (omega arith))

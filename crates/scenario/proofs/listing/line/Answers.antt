@@ -12,7 +12,7 @@ loop-number-preserved c =
     let n = get_or c.args.numbers.now c.loop-number.number-index 0 in
     let base = string_bytes c.push.new.self in
     let sofar = take c.loop-number.number-index c.args.numbers.now in
-    let shown : c.as-str.result.now ≡ 32 ∷ decimal n = c.as-str.ensures.value ∙ c.in_ok-more.ensures.ok in
+    let shown : c.as_str.result.now ≡ 32 ∷ decimal n = c.as_str.ensures.value ∙ c.in_ok-more.ensures.ok in
     c.in_ok-push_str.ensures.bytes ∙ ap (λ (b : List ℕ). string_bytes c.loop-number.text ++ b) shown ∙ ap (λ (t : List ℕ). t ++ 32 ∷ decimal n) c.loop-number.invariant ∙ append_assoc base (spaced sofar) (32 ∷ decimal n)
     ∙ ap (λ (l : List ℕ). base ++ l) (flat_map_more (λ k. 32 ∷ decimal k) [] sofar n ∙ ap spaced (sym (take_more c.args.numbers.now c.loop-number.number-index 0 c.loop-number-test.true)))
 

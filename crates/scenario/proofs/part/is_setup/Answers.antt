@@ -6,9 +6,9 @@ pub returns-in_default : goal.returns-in_default
 unfolding setup_letter
 returns-in_default c = search rules
 
-pub returns-in_default·2 : goal.returns-in_default·2
+pub returns-in_default-2 : goal.returns-in_default-2
 unfolding setup_letter
-returns-in_default·2 c = search rules
+returns-in_default-2 c = search rules
 
 pub returns-in-P : goal.returns-in-P
 unfolding setup_letter

@@ -6,9 +6,9 @@ pub returns-in_default : goal.returns-in_default
 unfolding table_letter
 returns-in_default c = search rules
 
-pub returns-in_default·2 : goal.returns-in_default·2
+pub returns-in_default-2 : goal.returns-in_default-2
 unfolding table_letter
-returns-in_default·2 c = search rules
+returns-in_default-2 c = search rules
 
 pub returns-in-D : goal.returns-in-D
 unfolding table_letter

@@ -6,7 +6,7 @@ use Rattle.scenario.proofs.reader.read.Goals as goal
 
 pub returns-in_err-check_whole : goal.returns-in_err-check_whole
 returns-in_err-check_whole c =
-    let p = err_from_is_err_and c.from-residual.result c.from-residual.ensures.1 in
+    let p = err_from_is_err_and c.from_residual.result c.from_residual.ensures.1 in
     record {
       answer = subst (Told c.args.bytes.now) (sym (p.1 ∙ ap Err p.2)) (inl (c.in_err-check_whole.field-0.0, c.in_err-check_whole.ensures, refl));
       law = lawful c.args.bytes.now;

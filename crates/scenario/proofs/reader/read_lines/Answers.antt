@@ -20,7 +20,7 @@ take-requires c = record { few = omega (arith, c.loop-i.invariant.few, c.require
 
 pub returns-in_err-take : goal.returns-in_err-take
 returns-in_err-take c =
-    let p = err_from_is_err_and c.from-residual.result c.from-residual.ensures.1 in
+    let p = err_from_is_err_and c.from_residual.result c.from_residual.ensures.1 in
     record {
       answer =
           subst (Told c.args.bytes.now) (sym (p.1 ∙ ap Err p.2))

@@ -12,8 +12,8 @@ pub cross-requires-2 : goal.cross-requires-2
 cross-requires-2 c =
     let ss = entries c.args.self.now.chart.states in
     let sends = entries c.args.self.now.chart.sends in
-    let exits = c.as-slice.result.now in
+    let exits = c.as_slice.result.now in
     let long = ap length c.cross.ensures.sends ∙ length-append (entries c.handled-reaction.result.sends) (crossings ss sends Exit exits) in
     let one = one_send sends c.args.send in
     let out = few_crossings ss sends Exit exits in
-    omega (arith, ap length c.handled-reaction.ensures.sends, ap length c.as-slice.ensures, ap length c.as-slice-2.ensures, few_entries c.below-exits.result, few_entries c.outermost-first-entries.result)
+    omega (arith, ap length c.handled-reaction.ensures.sends, ap length c.as_slice.ensures, ap length c.as_slice-2.ensures, few_entries c.below-exits.result, few_entries c.outermost_first-entries.result)

@@ -6,4 +6,4 @@ use Rattle.objects.proofs.net_object.NetObject.enabled.Goals as goal
 
 pub returns : goal.returns
 returns c =
-    found_map firing (ready c.args.signal (values c.args.self.now.marks)) c.first.result c.as-slice.result.now (entries c.args.self.now.transitions) c.first.ensures c.as-slice.ensures
+    found_map firing (ready c.args.signal (values c.args.self.now.marks)) c.first.result c.as_slice.result.now (entries c.args.self.now.transitions) c.first.ensures c.as_slice.ensures
