@@ -21,7 +21,7 @@ impl Trio {
             crew: Joined {
                 front: NetObject::new(tables.net()),
                 others: Joined {
-                    front: FlatObject::new(tables.flat()),
+                    front: FlatObject::new(tables),
                     others: ChartObject::new(tables.chart()),
                 },
             },

@@ -3,7 +3,7 @@ use Rattle.std.specs.Prelude.{◌≡◌, ℕ, Bool, cond, ◌&&◌, ◌⊎◌, L
 use Rattle.terms.specs.Events.{Content}
 use Rattle.terms.specs.declared.send.Send.{Send}
 use Rattle.tables.specs.Drawing.{FlatDrawing}
-use Rattle.objects.specs.Finding.{first_of, First, NoneOf}
+use Rattle.objects.specs.Finding.{First, NoneOf}
 use Rattle.objects.specs.Crews.{Response, Rule, passing}
 use Rattle.objects.specs.Sending.{sends_of}
 use Rattle.tables.specs.declared.flat.FlatRow.{FlatRow}
@@ -20,6 +20,11 @@ state_in (s ∷ ss) = s
 abbrev pub row_of_state : ℕ → ℕ → FlatRow → Bool
 row_of_state state signal r = r.state == state && r.signal == signal
 
+-- the first row of a state and a signal
+abbrev pub first_row : List FlatRow → ℕ → ℕ → Option FlatRow
+first_row [] state signal = None
+first_row (r ∷ rs) state signal = cond (row_of_state state signal r) (Some r) (first_row rs state signal)
+
 abbrev pub acts : List Send → FlatAction → List ℕ → Response
 acts sends (Move next send) s = record { verdict = Handled; next = next ∷ []; sends = sends_of sends send }
 acts sends Defer s = passing Deferred s
@@ -29,7 +34,7 @@ by_row sends None s = passing Ignored s
 by_row sends (Some r) s = acts sends r.action s
 
 abbrev pub flat_rule : List FlatRow → List Send → Rule
-flat_rule rows sends s e = by_row sends (first_of (row_of_state (state_in s) e.signal) rows) s
+flat_rule rows sends s e = by_row sends (first_row rows (state_in s) e.signal) s
 
 -- the first row of the state and the signal decides; with none the event is ignored
 abbrev pub FlatResponds : FlatDrawing → ℕ → Content → Response → Type 0

@@ -40,7 +40,9 @@ impl Reaction {
         ensures sends { entries result.sends ≡ sends_of (entries sends.now) number }
     {
         let mut reaction = Reaction::silent(Verdict::Handled);
-        reaction.add(sends.get(number as usize));
+        if let Some(send) = sends.get(number as usize) {
+            let _ = reaction.sends.push(send);
+        }
         reaction
     }
 

@@ -67,7 +67,7 @@ pub record DrawingWithin (d : Drawing) : Type 0 where
   pub few_sends : length d.sends ≤ 32
   pub sends : All SendWithin d.sends
   pub few_states : length d.states ≤ 32
-  pub states : StatesWithin (length d.sends) d.states
+  pub states : (n : ℕ) (s : State) → numbered d.states n ≡ Some s → StateWithin (length d.sends) d.states n s
   pub few_rows : length d.rows ≤ 64
   pub rows : All (RowWithin (length d.sends) (length d.states)) d.rows
   pub few_flat_rows : length d.flat_rows ≤ 64
