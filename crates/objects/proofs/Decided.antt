@@ -1,20 +1,16 @@
 -- The row that decides, and what an object does by it.
-use Rattle.std.proofs.Common.{◌≡◌, ℕ, zero, suc, ◌≤◌, Bool, true, false, ◌&&◌, eqb, ◌⊎◌, List, [], ◌∷◌, ◌++◌, length, Some, None, sym, refl, ap, ◌∙◌, subst, inl, inr, ⊎_elim, arith}
-use Rattle.std.proofs.lemmas.Bool.{and_parts, eqb-true, eq-eqb, or_left, or_right}
+use Rattle.std.proofs.Common.{◌≡◌, ℕ, ◌≤◌, true, ◌&&◌, eqb, List, [], ◌∷◌, ◌++◌, length, Some, None, sym, refl, ap, ◌∙◌, subst, inl, inr, ⊎_elim, arith}
+use Rattle.std.proofs.lemmas.Bool.{and_parts, eqb-true, eq-eqb, or_left}
 use Rattle.std.specs.List.{AllByRecursion as All}
 use Rattle.terms.specs.Events.{Content}
-use Rattle.terms.specs.Entries.{numbered}
-use Rattle.terms.specs.declared.send.Send.{Send}
 use Rattle.objects.specs.Charts.{chain, on_chain, applies, or_else, decides, first_word, acts, by_row, chart_rule}
-use Rattle.objects.specs.Crews.{Rule, Response}
 use Rattle.tables.specs.Drawing.{ChartDrawing, lets}
-use Rattle.objects.specs.Finding.{first_of, First, NoneOf}
-use Rattle.tables.specs.Limits.{From1To, ChartWithin, RowWithin, ActionWithin}
-use Rattle.objects.specs.Moves.{On, Passed, Decisive, Carried, Responds, ChartAsDrawn}
+use Rattle.objects.specs.Finding.{first_of, First}
+use Rattle.tables.specs.Limits.{ChartWithin, RowWithin, ActionWithin}
+use Rattle.objects.specs.Moves.{On, Passed, Carried, Responds, ChartAsDrawn}
 use Rattle.tables.specs.declared.chart.Action.{Action}
 use Rattle.tables.specs.declared.chart.Action.TheVariants.{Move, Stay, Defer}
 use Rattle.tables.specs.declared.chart.Row.{Row}
-use Rattle.tables.specs.declared.chart.State.{State}
 use Rattle.objects.proofs.Drawn.{chain_top, chain_up, distinct, moved, started, start_declared, on_append}
 use Rattle.objects.proofs.Firsts.{told, found_first, found_none}
 

@@ -1,11 +1,11 @@
 -- A chart within its limits moves as it is drawn.
-use Rattle.std.proofs.Common.{◌≡◌, ℕ, zero, suc, ◌+◌, ◌-◌, ◌<◌, ◌≤◌, Bool, true, false, cond, ◌||◌, eqb, ◌⊎◌, List, [], ◌∷◌, ◌++◌, reverse, length, get_or, Some, None, Option, sym, refl, ap, ◌∙◌, subst, inl, inr, ⊎_elim, arith}
+use Rattle.std.proofs.Common.{◌≡◌, ℕ, zero, suc, ◌+◌, ◌-◌, ◌<◌, ◌≤◌, Bool, true, false, cond, ◌||◌, eqb, ◌⊎◌, List, [], ◌∷◌, ◌++◌, length, get_or, Some, Option, sym, refl, ap, ◌∙◌, subst, inl, inr, ⊎_elim, arith}
 use Rattle.std.proofs.lemmas.List.{reverse-reverse}
-use Rattle.std.proofs.lemmas.Bool.{cond-true, cond-false, cases_Bool, cases_eq, eqb-true, eqb-false, eq-eqb, ne_eqb, or_cases, or_parts, or_from, or_left, or_right, false≢true}
+use Rattle.std.proofs.lemmas.Bool.{cond-true, cond-false, cases_Bool, cases_eq, eqb-true, eq-eqb, ne_eqb, or_cases, or_left, or_right, false≢true}
 use Rattle.terms.specs.Entries.{numbered}
 use Rattle.terms.proofs.Numbered.{numbered_in}
 use Rattle.objects.specs.Charts.{climb, chain, on_chain, or_top, meeting, base_of, below, initial_of, initial_in, settle, reached, left, entered, start_in}
-use Rattle.tables.specs.Drawing.{parent_of, parent_in, up, descends}
+use Rattle.tables.specs.Drawing.{parent_of, up, descends}
 use Rattle.objects.specs.Finding.{first_of}
 use Rattle.tables.specs.Limits.{From1To, StatesWithin}
 use Rattle.objects.specs.Moves.{On, Distinct, Base, Settles, rests, follows, Moved, Starts}

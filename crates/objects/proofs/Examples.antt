@@ -1,11 +1,9 @@
 -- The worked cases follow from the definitions.
-use Rattle.std.proofs.Common.{◌≡◌, ℕ, List, [], ◌∷◌, Ok, Err, Result, sym, refl, ◌∙◌, arith}
+use Rattle.std.proofs.Common.{◌≡◌, ℕ, Ok, Err, Result, sym, refl, ◌∙◌, arith}
 use Rattle.terms.specs.Calls.{Follows}
 use Rattle.objects.specs.Charts.{chain, reached}
-use Rattle.tables.specs.Drawing.{Drawing, undrawn, with_states, add_state, set_initial}
 use Rattle.policies.specs.Picks.{highest, met}
-use Rattle.objects.specs.Worked.{inside, five_states, WorkedCases}
-use Rattle.tables.specs.declared.chart.State.{State}
+use Rattle.objects.specs.Worked.{five_states, WorkedCases}
 
 pub worked : WorkedCases five_states
 unfolding chain reached highest met

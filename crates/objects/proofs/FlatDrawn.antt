@@ -1,5 +1,5 @@
 -- A flat object does what its first row says.
-use Rattle.std.proofs.Common.{◌≡◌, ℕ, ◌⊎◌, List, [], ◌∷◌, true, false, cond, Some, None, refl, inl, inr, ⊎_elim}
+use Rattle.std.proofs.Common.{◌≡◌, ℕ, List, [], ◌∷◌, true, false, cond, Some, refl, inl, inr, ⊎_elim}
 use Rattle.terms.specs.Events.{Content}
 use Rattle.tables.specs.Drawing.{FlatDrawing}
 use Rattle.tables.specs.declared.flat.FlatRow.{FlatRow}

@@ -1,7 +1,6 @@
 -- What a hierarchical object does.
-use Rattle.std.specs.Prelude.{◌≡◌, ℕ, zero, suc, Bool, true, false, cond, ◌&&◌, ◌||◌, List, [], ◌∷◌, ◌++◌, reverse, Some, None, Option, ◌==◌}
+use Rattle.std.specs.Prelude.{ℕ, zero, suc, Bool, false, cond, ◌&&◌, ◌||◌, List, [], ◌∷◌, ◌++◌, reverse, Some, None, Option, ◌==◌}
 use Rattle.terms.specs.Entries.{numbered}
-use Rattle.terms.specs.Events.{Content}
 use Rattle.terms.specs.declared.send.Send.{Send}
 use Rattle.objects.specs.Crews.{Response, Rule, passing}
 use Rattle.tables.specs.Drawing.{parent_of, lets, crossing_of}
@@ -9,8 +8,6 @@ use Rattle.objects.specs.Finding.{first_of}
 use Rattle.objects.specs.Sending.{sends_of}
 use Rattle.tables.specs.declared.chart.State.{State}
 use Rattle.tables.specs.declared.chart.Row.{Row}
-use Rattle.tables.specs.declared.chart.Guard.{Guard}
-use Rattle.tables.specs.declared.chart.Guard.TheVariants.{Always, Is, Under}
 use Rattle.tables.specs.declared.chart.Action.{Action}
 use Rattle.tables.specs.declared.chart.Action.TheVariants.{Move, Stay, Defer}
 use Rattle.tables.specs.declared.chart.Crossing.{Crossing}

@@ -1,10 +1,10 @@
 -- What the objects of a crew do with events.
-use Rattle.std.specs.Prelude.{◌≡◌, ℕ, zero, suc, ◌≤◌, cond, List, [], ◌∷◌, length, ◌≢◌}
+use Rattle.std.specs.Prelude.{◌≡◌, ℕ, zero, suc, ◌≤◌, cond, List, [], length, ◌≢◌}
 use Rattle.terms.specs.Events.{Content}
 use Rattle.terms.specs.Ranges.{between}
 use Rattle.terms.specs.declared.send.Send.{Send}
 use Rattle.objects.specs.declared.reaction.Verdict.{Verdict}
-use Rattle.objects.specs.declared.reaction.Verdict.TheVariants.{Handled, Deferred, Ignored}
+use Rattle.objects.specs.declared.reaction.Verdict.TheVariants.{Handled, Ignored}
 
 -- a verdict, the next state, and the sends in order
 pub record Response : Type 0 where

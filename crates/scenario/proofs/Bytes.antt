@@ -1,5 +1,5 @@
 -- The last byte of a file.
-use Rattle.std.proofs.Common.{◌≡◌, ℕ, suc, ◌-◌, ◌<◌, List, [], ◌∷◌, length, get_or, sym, refl, ap, ◌∙◌, arith}
+use Rattle.std.proofs.Common.{◌≡◌, ℕ, suc, ◌-◌, ◌<◌, List, [], ◌∷◌, length, get_or, refl, arith}
 use Rattle.scenario.specs.Files.{last_byte}
 
 pub last_is : (b : ℕ) (bytes : List ℕ) (d : ℕ) → 0 < length bytes → last_byte b bytes ≡ get_or bytes (length bytes - 1) d

@@ -1,5 +1,5 @@
 -- Every sound line keeps the limits, so that a scenario that is read keeps them.
-use Rattle.std.proofs.Common.{◌≡◌, ℕ, ◌<◌, ◌≤◌, Bool, true, false, cond, eqb, leb, ◌⊎◌, List, [], ◌∷◌, ◌++◌, length, drop, Some, None, Ok, Err, Option, Result, sym, refl, ap, ◌∙◌, subst, inl, inr, arith}
+use Rattle.std.proofs.Common.{◌≡◌, ℕ, eqb, leb, List, [], ◌∷◌, ◌++◌, length, drop, Some, None, Ok, Err, Option, Result, sym, refl, ap, ◌∙◌, subst, inl, inr, arith}
 use Rattle.std.proofs.ByRecursion.{All-push}
 use Rattle.std.proofs.lemmas.Bool.{cond_both, leb-true}
 use Rattle.std.specs.List.{AllByRecursion as All}
@@ -16,12 +16,12 @@ use Rattle.kernel.proofs.Kept.{blank_within, pool_kept, lengths_kept, subscribed
 use Rattle.tables.specs.Drawing.{Drawing, add_send, add_state, set_initial, add_row, add_flat_row, set_marks, add_transition, set_arc}
 use Rattle.tables.specs.Limits.{DrawingWithin, From1To}
 use Rattle.tables.proofs.Kept.{undrawn_within, send_kept, state_kept, initial_kept, row_kept, flat_row_kept, marks_kept, transition_kept, arc_kept}
-use Rattle.scenario.specs.Cell.{Settings, Cell, Order, post, post_front, publish, recycle, dispatch}
+use Rattle.scenario.specs.Cell.{Settings, Order, post, post_front, publish, recycle, dispatch}
 use Rattle.scenario.specs.Law.{Sound}
-use Rattle.scenario.specs.Limits.{EventWithin, OrderWithin, CellWithin, PageWithin}
-use Rattle.scenario.specs.Lines.{field, misshapen, exactly, at_least, by_setup, by_tables, by_script, with_plan, with_discipline, setup_line, table_line, script_line, event_of, object_of, addressed}
+use Rattle.scenario.specs.Limits.{EventWithin, OrderWithin, PageWithin}
+use Rattle.scenario.specs.Lines.{field, exactly, at_least, by_setup, by_tables, by_script, with_plan, with_discipline, setup_line, table_line, script_line, event_of, object_of, addressed}
 use Rattle.scenario.specs.Parts.{rank_of, part_of}
-use Rattle.scenario.specs.Reading.{Page, LineIs, means, in_part, within, by_settings, by_drawing, by_order, blank_page}
+use Rattle.scenario.specs.Reading.{Page, LineIs, in_part, by_settings, by_drawing, by_order, blank_page}
 use Rattle.scenario.specs.declared.fault.Cause.{Cause}
 use Rattle.scenario.specs.declared.fault.Cause.TheVariants as cause
 use Rattle.scenario.specs.declared.fault.LineFault.TheVariants.{Form}

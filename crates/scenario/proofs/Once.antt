@@ -1,9 +1,9 @@
 -- A file has one answer: its bytes spell each line in one way.
-use Rattle.std.proofs.Common.{◌≡◌, ℕ, ◌+◌, ◌≤◌, ◌⊎◌, List, [], ◌∷◌, ◌++◌, length, Ok, Err, decimal, Result, sym, refl, ap, ◌∙◌, subst, inl, inr, arith}
+use Rattle.std.proofs.Common.{◌≡◌, ℕ, ◌+◌, List, [], ◌∷◌, ◌++◌, Ok, Err, decimal, Result, sym, refl, ap, ◌∙◌, subst, inl, inr, arith}
 use Rattle.std.proofs.lemmas.Fmt.{digits_decimal, decimal_injective}
 use Rattle.scenario.specs.Cell.{Cell}
 use Rattle.scenario.specs.Files.{Whole, WholeFault, file_fault, Reads, FileIs, lines_of}
-use Rattle.scenario.specs.Format.{spaced, Numbers, Spelt, Misspelt}
+use Rattle.scenario.specs.Format.{spaced, Numbers, Spelt}
 use Rattle.scenario.specs.Reading.{Page, LineIs, means, blank_page}
 use Rattle.scenario.specs.declared.fault.Cause.{Cause}
 use Rattle.scenario.specs.declared.fault.Fault.{Fault}

@@ -1,5 +1,5 @@
 -- Lines are read in their order: the first fault is the answer, and without one every line is sound.
-use Rattle.std.proofs.Common.{◌≡◌, ℕ, suc, ◌+◌, ◌⊎◌, List, [], ◌∷◌, ◌++◌, length, Ok, Err, Result, sym, refl, ap, ◌∙◌, subst, inl, inr, arith}
+use Rattle.std.proofs.Common.{◌≡◌, ℕ, ◌+◌, ◌⊎◌, List, [], ◌∷◌, ◌++◌, length, Ok, Err, sym, refl, ap, ◌∙◌, subst, inl, inr, arith}
 use Rattle.scenario.specs.Cell.{Cell}
 use Rattle.scenario.specs.Files.{Reads, FileIs, lines_of, file_fault}
 use Rattle.scenario.specs.Law.{Sound, FirstFault, WholeAtFault, AllSound}

@@ -1,12 +1,11 @@
 -- How far a file was read: what the rest of its lines says is what the whole file says.
-use Rattle.std.proofs.Common.{◌≡◌, ℕ, ◌+◌, ◌-◌, ◌<◌, ◌≤◌, Bool, true, false, cond, eqb, List, [], ◌∷◌, ◌++◌, length, get_or, take, drop, Ok, Err, Result, sym, refl, ap, ◌∙◌, subst, inl, inr, arith, length-drop, get_or-drop}
+use Rattle.std.proofs.Common.{◌≡◌, ℕ, ◌+◌, ◌-◌, ◌<◌, ◌≤◌, cond, List, [], ◌∷◌, ◌++◌, length, get_or, take, drop, Ok, Err, Result, sym, refl, ap, ◌∙◌, subst, inl, inr, arith, length-drop, get_or-drop}
 use Rattle.std.proofs.lemmas.List.{take_more, drop_more, drop_all}
 use Rattle.std.proofs.lemmas.Bool.{eq-eqb, ne_eqb}
 use Rattle.scenario.specs.Cell.{Cell}
 use Rattle.scenario.specs.Files.{Reads, Unless, lines_from, lines_of}
 use Rattle.scenario.specs.Limits.{PageWithin}
 use Rattle.scenario.specs.Reading.{Page, LineIs, blank_page}
-use Rattle.scenario.specs.declared.fault.Cause.{Cause}
 use Rattle.scenario.specs.declared.fault.Fault.{Fault}
 use Rattle.scenario.specs.declared.reader.ReadError.{ReadError}
 use Rattle.scenario.specs.declared.reader.ReadError.TheVariants.{Faulty, Memory}

@@ -1,18 +1,18 @@
 -- Every file has an answer: bytes spell a line or none, and so on from line to line.
-use Rattle.std.proofs.Common.{◌≡◌, ℕ, zero, suc, ◌+◌, ◌<◌, ◌≤◌, ◌⊎◌, List, [], ◌∷◌, ◌++◌, length, get_or, Ok, Err, decimal, Result, sym, refl, ap, ◌∙◌, inl, inr, ⊎_elim, arith, length-append}
-use Rattle.std.proofs.lemmas.Bool.{cases_lt, cases_eq, cases_order}
+use Rattle.std.proofs.Common.{◌≡◌, ℕ, zero, suc, ◌+◌, ◌≤◌, ◌⊎◌, List, [], ◌∷◌, ◌++◌, length, get_or, Ok, Err, decimal, Result, sym, refl, ap, ◌∙◌, inl, inr, ⊎_elim, arith, length-append}
+use Rattle.std.proofs.lemmas.Bool.{cases_lt, cases_eq}
 use Rattle.std.specs.Str.Parse.{digits_value, AllDigits}
 use Rattle.std.specs.Char.{digit_value}
 use Rattle.scenario.specs.Cell.{Cell}
-use Rattle.scenario.specs.Files.{Whole, WholeFault, file_fault, Reads, FileIs, lines_of, last_byte}
-use Rattle.scenario.specs.Format.{spaced, Numbers, Spelt, Misspelt}
+use Rattle.scenario.specs.Files.{file_fault, Reads, FileIs, lines_of, last_byte}
+use Rattle.scenario.specs.Format.{spaced, Spelt, Misspelt}
 use Rattle.scenario.specs.Lines.{misshapen}
 use Rattle.scenario.specs.Reading.{Page, LineIs, means, blank_page}
 use Rattle.scenario.specs.Scanning.{First, NoFirst, Spaces, NoSpaces}
 use Rattle.scenario.specs.declared.fault.Cause.{Cause}
 use Rattle.scenario.specs.declared.fault.Fault.{Fault}
 use Rattle.scenario.specs.declared.fault.FileFault.TheVariants.{TooLong, Unterminated}
-use Rattle.scenario.proofs.Numerals.{not_empty, not_long, not_led, just, only}
+use Rattle.scenario.proofs.Numerals.{not_empty, not_led, just, only}
 use Rattle.scenario.proofs.Scanned.{Undigit, no_space, first_none, first_some, no_first}
 
 -- digits write a number, or no number's text is these digits

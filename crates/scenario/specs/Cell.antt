@@ -1,10 +1,10 @@
 -- What a scenario file describes: a cell, and what is asked of it.
-use Rattle.std.specs.Prelude.{ℕ, List, [], map}
+use Rattle.std.specs.Prelude.{ℕ, List, []}
 use Rattle.terms.specs.Events.{Content, content}
 use Rattle.kernel.specs.Plan.{Plan, plan, blank}
 use Rattle.kernel.specs.declared.discipline.Discipline.{Discipline}
 use Rattle.kernel.specs.declared.discipline.Discipline.TheVariants.{Strict}
-use Rattle.tables.specs.Drawing.{Drawing, drawing, undrawn}
+use Rattle.tables.specs.Drawing.{Drawing, undrawn}
 use Rattle.scenario.specs.declared.script.Command.{Command}
 use Rattle.scenario.specs.declared.script.Command.TheVariants as command
 use Rattle.scenario.specs.declared.setting.Setting.{Setting}

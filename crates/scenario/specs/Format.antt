@@ -1,5 +1,5 @@
 -- How the lines of a scenario file are written.
-use Rattle.std.specs.Prelude.{◌≡◌, ℕ, ◌≤◌, List, [], ◌∷◌, ◌++◌, length, decimal}
+use Rattle.std.specs.Prelude.{◌≡◌, ℕ, ◌≤◌, List, ◌∷◌, length, decimal}
 use Rattle.std.specs.List.{flat_map, AllByRecursion as All}
 
 -- each number behind one space

@@ -1,5 +1,5 @@
 -- The limits of a scenario.
-use Rattle.std.specs.Prelude.{◌≡◌, ℕ, ◌<◌, true, List, [], length}
+use Rattle.std.specs.Prelude.{◌≡◌, ◌<◌, true, [], length}
 use Rattle.std.specs.List.{AllByRecursion as All}
 use Rattle.terms.specs.Events.{Content}
 use Rattle.kernel.specs.Limits.{PlanWithin}

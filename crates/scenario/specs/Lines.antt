@@ -1,5 +1,5 @@
 -- What each line of a scenario file means, by its letter and its numbers.
-use Rattle.std.specs.Prelude.{ℕ, Bool, true, false, cond, ◌&&◌, ◌||◌, List, [], ◌∷◌, ◌++◌, length, drop, Some, None, Ok, Err, Option, Result, ◌==◌, nat_le, slice_index}
+use Rattle.std.specs.Prelude.{ℕ, cond, List, length, drop, Ok, Err, Result, ◌==◌, nat_le, slice_index}
 use Rattle.terms.specs.Events.{Content}
 use Rattle.terms.specs.Ranges.{between}
 use Rattle.terms.specs.declared.table.TableFault.{TableFault}
@@ -7,7 +7,7 @@ use Rattle.kernel.specs.Plan.{Plan, add_pool, set_lengths, subscribed, some_hold
 use Rattle.kernel.specs.declared.discipline.Discipline.{Discipline}
 use Rattle.kernel.specs.declared.fault.SetupFault.{SetupFault}
 use Rattle.tables.specs.Drawing.{Drawing, add_send, add_state, set_initial, add_row, add_flat_row, set_marks, add_transition, set_arc}
-use Rattle.scenario.specs.Cell.{Settings, Cell, Order, post, post_front, publish, recycle, dispatch}
+use Rattle.scenario.specs.Cell.{Settings, Order, post, post_front, publish, recycle, dispatch}
 use Rattle.scenario.specs.declared.fault.Cause.{Cause}
 use Rattle.scenario.specs.declared.fault.Cause.TheVariants as cause
 use Rattle.scenario.specs.declared.fault.LineFault.TheVariants.{Form}

@@ -1,5 +1,5 @@
 -- The numbers of a line, one after the other.
-use Rattle.std.specs.Prelude.{◌≡◌, ℕ, ◌≤◌, List, [], ◌∷◌, ◌++◌, decimal, ◌≢◌}
+use Rattle.std.specs.Prelude.{◌≡◌, ℕ, ◌≤◌, List, ◌∷◌, ◌++◌, decimal, ◌≢◌}
 use Rattle.scenario.specs.Format.{spaced, Numbers}
 
 -- n stands in front of the text and rest behind it, however the text is read as numbers

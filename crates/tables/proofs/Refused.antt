@@ -1,14 +1,13 @@
 -- What the calls on a cell's tables refuse, from the facts that their tests leave.
-use Rattle.std.proofs.Common.{◌≡◌, ℕ, ◌<◌, ◌≤◌, true, false, ◌&&◌, leb, List, map, length, Some, None, Ok, Err, sym, refl, ap, ◌∙◌, ⊎_elim, arith}
+use Rattle.std.proofs.Common.{◌≡◌, ℕ, ◌≤◌, false, ◌&&◌, List, map, length, None, Err, refl, ap, ◌∙◌, ⊎_elim, arith}
 use lib.ListN.{length-map}
-use Rattle.std.proofs.lemmas.Bool.{and_left, and_parts, cases_Bool, cond-false}
+use Rattle.std.proofs.lemmas.Bool.{and_parts, cases_Bool, cond-false}
 use Rattle.terms.specs.Entries.{numbered}
 use Rattle.terms.specs.Ranges.{between}
 use Rattle.terms.proofs.Numbered.{numbered_none}
 use Rattle.terms.proofs.Ranges.{between_false, between_bounds}
 use Rattle.terms.specs.declared.table.TableFault.TheVariants.{Value}
-use Rattle.tables.specs.Drawing.{Drawing, Firing, firing, set_initial, set_arc, row_of, descends}
-use Rattle.tables.specs.declared.chart.Row.{Row}
+use Rattle.tables.specs.Drawing.{Drawing, firing, set_initial, set_arc, row_of}
 use Rattle.tables.specs.declared.net.Transition.{Transition}
 
 -- a number that no entry has is out of the range of the numbers

@@ -1,5 +1,5 @@
 -- What the calls on a cell's tables leave where they take a state's initial target or a transition's arc.
-use Rattle.std.proofs.Common.{◌≡◌, ℕ, ◌≤◌, true, List, map, length, Some, Ok, sym, refl, ap, ◌∙◌, arith}
+use Rattle.std.proofs.Common.{◌≡◌, ℕ, ◌≤◌, true, List, map, length, Some, Ok, sym, ap, ◌∙◌, arith}
 use lib.ListN.{length-map}
 use Rattle.std.proofs.lemmas.Bool.{le-leb}
 use Rattle.terms.specs.Entries.{numbered, replaced, changed}

@@ -1,5 +1,5 @@
 -- What the tables of a cell hold, and what each call makes of them.
-use Rattle.std.specs.Prelude.{ℕ, zero, suc, Bool, true, false, cond, ◌&&◌, ◌||◌, List, [], ◌∷◌, ◌++◌, map, length, replicate, Some, None, Ok, Err, Option, Result, ◌==◌, nat_le, nat_lt}
+use Rattle.std.specs.Prelude.{ℕ, zero, suc, Bool, true, cond, ◌&&◌, ◌||◌, List, [], map, length, replicate, Some, None, Ok, Err, Option, Result, ◌==◌, nat_le, nat_lt}
 use Rattle.terms.specs.Entries.{entries, values, numbered, replaced, changed, added}
 use Rattle.terms.specs.Ranges.{between}
 use Rattle.terms.specs.declared.send.Send.{Send}

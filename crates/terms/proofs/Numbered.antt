@@ -1,10 +1,8 @@
 -- Reading, replacing and adding numbered values.
-use Rattle.std.proofs.Common.{◌≡◌, ℕ, zero, suc, ◌+◌, ◌-◌, ◌<◌, ◌≤◌, min, true, false, List, [], ◌∷◌, ◌++◌, length, get_or, take, set, Some, None, Option, sym, refl, ap, ◌∙◌, ⊎_elim, arith, length-take}
-use lib.Seq.{take-set-lt}
-use Rattle.std.proofs.lemmas.List.{take_more_set, set_past, length-take-le, get_or-take}
+use Rattle.std.proofs.Common.{◌≡◌, ℕ, zero, suc, ◌-◌, ◌<◌, ◌≤◌, true, false, List, [], ◌∷◌, length, get_or, set, Some, None, sym, refl, ap, ⊎_elim, arith}
+use Rattle.std.proofs.lemmas.List.{set_past}
 use Rattle.std.proofs.lemmas.Option.{slice_get-get_or, slice_get_past}
 use Rattle.std.proofs.lemmas.Bool.{lt-ltb, le-ltb, cases_lt}
-use Rattle.std.specs.List.{slice_get}
 use Rattle.terms.specs.Entries.{numbered, among, replaced, changed}
 
 module _ {T : Type 0} (xs : List T) where

@@ -1,8 +1,7 @@
-use Rattle.std.proofs.Common.{◌≡◌, ◌+◌, Bool, true, false, leb, ◌∷◌, get_or, drop, sym, ap, ◌∙◌, arith}
+use Rattle.std.proofs.Common.{get_or, sym, ◌∙◌}
 use Rattle.std.proofs.lemmas.List.{at_drop_more, at_drop_all}
 use Rattle.std.proofs.lemmas.Bool.{le-leb, lt-leb}
 use Rattle.kernel.specs.Plan.{some_holds}
-use Rattle.kernel.specs.declared.layout.Pool.{Pool}
 use Rattle.kernel.proofs.layout.some_holds.Goals as goal
 
 pub loop-pool-preserved : goal.loop-pool-preserved

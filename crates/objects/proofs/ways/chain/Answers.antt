@@ -1,9 +1,9 @@
-use Rattle.std.proofs.Common.{◌≡◌, ℕ, ◌-◌, List, [], ◌∷◌, ◌++◌, length, sym, refl, ap, ◌∙◌, arith}
+use Rattle.std.proofs.Common.{◌≡◌, ℕ, ◌-◌, [], ◌∷◌, ◌++◌, length, sym, ap, ◌∙◌, arith}
 use Rattle.std.proofs.lemmas.List.{append-nil, length_push}
 use Rattle.terms.specs.Entries.{entries}
 use Rattle.terms.proofs.Added.{added_with_room}
 use Rattle.objects.specs.Charts.{climb, chain}
-use Rattle.objects.specs.Walks.{climbed, climb_top, climb_done}
+use Rattle.objects.specs.Walks.{climbed, climb_top}
 use Rattle.objects.proofs.ways.chain.Goals as goal
 use Rattle.objects.proofs.ways.chain.Goals.{After-parent_of-state}
 

@@ -1,4 +1,4 @@
-use Rattle.std.proofs.Common.{◌≡◌, ◌+◌, ◌≤◌, ◌++◌, reverse, length, take}
+use Rattle.std.proofs.Common.{◌≡◌, ◌+◌, ◌++◌, reverse, length, take}
 use Rattle.terms.specs.Entries.{entries}
 use Rattle.objects.proofs.ways.outermost_first.Given as goal
 

@@ -1,4 +1,4 @@
-use Rattle.std.proofs.Common.{◌≡◌, ℕ, ◌+◌, ◌-◌, sym, refl, ap, ◌∙◌, arith}
+use Rattle.std.proofs.Common.{◌+◌, ◌-◌, sym, refl, ap, ◌∙◌, arith}
 use Rattle.objects.specs.Charts.{settle, reached}
 use Rattle.terms.specs.Entries.{entries}
 use Rattle.objects.specs.Walks.{settle_more, settle_here}

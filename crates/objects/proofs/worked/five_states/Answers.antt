@@ -1,4 +1,4 @@
-use Rattle.std.proofs.Common.{◌≡◌, List, [], ◌∷◌, Ok, sym, refl, ap, ◌∙◌, subst}
+use Rattle.std.proofs.Common.{◌≡◌, List, [], ◌∷◌, sym, ap, subst}
 use Rattle.tables.specs.Drawing.{Drawing, drawing, undrawn, with_states, add_state, set_initial}
 use Rattle.objects.specs.Worked.{inside, five_states, WorkedCases}
 use Rattle.tables.specs.declared.chart.State.{State}

@@ -1,4 +1,4 @@
-use Rattle.std.proofs.Common.{◌≡◌, ℕ, List, ◌∷◌, ◌++◌, sym, ap, ◌∙◌, subst}
+use Rattle.std.proofs.Common.{◌≡◌, ◌∷◌, ◌++◌, sym, ◌∙◌, subst}
 use Rattle.std.specs.Str.Parse.{AllDigits}
 use Rattle.scenario.proofs.Scanned.{Undigit, undigit_at, first_none, first_some}
 use Rattle.scenario.proofs.digits.number.Goals as goal

@@ -1,6 +1,5 @@
-use Rattle.std.proofs.Common.{◌≡◌, ℕ, ◌+◌, ◌*◌, ◌≤◌, List, ◌++◌, length}
+use Rattle.std.proofs.Common.{length}
 use Rattle.terms.specs.Entries.{entries}
-use Rattle.scenario.specs.Format.{spaced, Numbers}
 use Rattle.scenario.proofs.Scanned.{Sofar}
 use Rattle.scenario.proofs.digits.numbers.Given as goal
 

@@ -1,4 +1,4 @@
-use Rattle.std.proofs.Common.{decimal, sym, ap, ◌∙◌, subst, ⊎_elim, arith}
+use Rattle.std.proofs.Common.{decimal, ap, ◌∙◌, ⊎_elim, arith}
 use Rattle.scenario.proofs.Numerals.{not_empty, not_long, not_led, just, only}
 use Rattle.scenario.proofs.digits.value_of.Goals as goal
 

@@ -1,9 +1,8 @@
-use Rattle.std.proofs.Common.{◌≡◌, ℕ, ◌+◌, List, Err, sym, refl, ap, ◌∙◌, subst, inl, inr, arith}
+use Rattle.std.proofs.Common.{ℕ, ◌+◌, List, Err, sym, ap, ◌∙◌, subst, inr, arith}
 use Rattle.std.proofs.lemmas.Result.{err_from_is_err_and}
 use Rattle.scenario.specs.Files.{Told}
 use Rattle.scenario.specs.Reading.{Page, page_of}
 use Rattle.scenario.specs.declared.reader.Reader.{Reader}
-use Rattle.scenario.specs.declared.reader.ReadError.{ReadError}
 use Rattle.scenario.proofs.Lawful.{lawful}
 use Rattle.scenario.proofs.Limited.{page_small}
 use Rattle.scenario.proofs.Progress.{Progress, at_start, at_end, no_feed, feed, fault, unless_so}

@@ -1,4 +1,4 @@
-use Rattle.std.proofs.Common.{length, sym, ap, ◌∙◌, arith, length-take}
+use Rattle.std.proofs.Common.{length, ap, ◌∙◌, arith, length-take}
 use Rattle.std.proofs.lemmas.List.{take_all}
 use Rattle.kernel.specs.Plan.{total}
 use Rattle.kernel.proofs.Pools.{total_more}

@@ -1,4 +1,4 @@
-use Rattle.std.proofs.Common.{◌≡◌, List, sym, refl, ap, ◌∙◌, arith}
+use Rattle.std.proofs.Common.{List, sym, refl, ap, ◌∙◌, arith}
 use Rattle.terms.specs.Entries.{replaced}
 use Rattle.terms.specs.Sets.{joins}
 use Rattle.terms.specs.declared.object_set.ObjectSet.{ObjectSet}

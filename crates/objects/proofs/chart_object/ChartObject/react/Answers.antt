@@ -1,5 +1,4 @@
-use Rattle.std.proofs.Common.{[], ◌∷◌, sym, subst}
-use Rattle.terms.specs.Entries.{entries}
+use Rattle.std.proofs.Common.{sym, subst}
 use Rattle.terms.specs.Events.{content}
 use Rattle.tables.specs.Drawing.{chart_drawing}
 use Rattle.objects.specs.Moves.{Responds}

@@ -1,4 +1,4 @@
-use Rattle.std.proofs.Common.{◌≡◌, get_or, sym, ap, ◌∙◌}
+use Rattle.std.proofs.Common.{get_or, sym, ap, ◌∙◌}
 use Rattle.terms.specs.Entries.{entries}
 use Rattle.objects.specs.Charts.{decides, applies}
 use Rattle.objects.specs.Finding.{first_of}

@@ -1,4 +1,3 @@
-use Rattle.std.proofs.Common.{rules}
 use Rattle.tables.specs.Drawing.{flat_drawing}
 use Rattle.objects.proofs.FlatDrawn.{flat_as_drawn}
 use Rattle.objects.proofs.flat_object.FlatObject.new.Goals as goal

@@ -1,5 +1,4 @@
-use Rattle.std.proofs.Common.{◌≡◌, ℕ, ◌+◌, ◌-◌, sym, ap, ◌∙◌, arith}
-use Rattle.terms.specs.Sets.{bits_of}
+use Rattle.std.proofs.Common.{ℕ, ◌+◌, ◌-◌, sym, ap, ◌∙◌}
 use Rattle.policies.specs.Picks.{first_met}
 use Rattle.policies.specs.Turns.{met_start, met_more, met_here, met_all}
 use Rattle.policies.proofs.rotating.Rotating.first_met.Goals as goal

@@ -1,4 +1,4 @@
-use Rattle.std.proofs.Common.{sym, refl, ap, ◌∙◌, arith, rules}
+use Rattle.std.proofs.Common.{sym, refl, ◌∙◌, arith, rules}
 use Rattle.tables.specs.Drawing.{set_initial}
 use Rattle.terms.specs.Entries.{entries}
 use Rattle.tables.specs.Drawing.{drawing}

@@ -1,4 +1,4 @@
-use Rattle.std.proofs.Common.{length, take, Ok, sym, ap, ◌∙◌, arith, length-take}
+use Rattle.std.proofs.Common.{length, take, Ok, sym, ap, arith, length-take}
 use Rattle.std.proofs.lemmas.List.{take_more_set}
 use Rattle.std.proofs.lemmas.Bool.{lt-ltb}
 use Rattle.terms.proofs.table.Table.push.Goals as goal
