@@ -6,6 +6,7 @@ usage: python3 tools/respell.py        at the top, once, on what the kit's port.
 A definition, a field or a variable is in snake case: addFlatRow becomes add_flat_row. A lemma's name is in snake case
 too, and a dash stands only between two functions, as in length-replaced; where that is the name of a function, the lemma
 gets _lem. Answers, invariants and measures keep the names that Rattle makes for them, and the functions of src/ theirs.
+The library's word AllByRecursion stands under its own name: All is another word there.
 Two names that would fall together stop the script before anything is written.
 """
 
@@ -19,6 +20,7 @@ CAMEL = re.compile(r"[a-z][A-Za-z0-9]*[a-z0-9][A-Z][A-Za-z0-9]*(-[A-Za-z]+)?|[a-
 # Functions of std and of this repository between which a dash stays.
 FUNCTIONS = {
     "length", "map", "replaced", "changed", "numbered", "added", "climb", "chain", "among",
+    "member", "highest", "first_row", "first_of",
 }
 # Lemmas that would have the name of a function or of a field.
 LEMMAS = {
@@ -37,7 +39,7 @@ LEMMAS_IN = {
     "crates/scenario/proofs/digits/sum_of/Answers.antt": {"digit_value": "digit_value_lem"},
 }
 # Names of answers and invariants, which Rattle makes.
-MADE = re.compile(r"(returns|loop|invariant|decreases|overflow|unwrap|take|cross|bounds|prove)-")
+MADE = re.compile(r"(returns|loop|invariant|decreases|overflow|overflow_add|overflow_sub|overflow_mul|unwrap|take|cross|bounds|prove)-")
 
 
 def files():
@@ -77,11 +79,17 @@ def main():
         with open(path, encoding="utf-8") as f:
             texts[path] = f.read()
     before = dict(texts)
+    # A tree that the script has turned has no such name, and stays as it is.
+    fresh = any("digitValue" in text for text in texts.values())
     for path, names in LEMMAS_IN.items():
-        if path in texts:
+        if fresh and path in texts:
             texts[path] = NAME.sub(lambda m: names.get(m.group(0), m.group(0)), texts[path])
             # The import of std's function of that name.
             texts[path] = texts[path].replace("{digit_value_lem as digitValue}", "{digit_value}")
+    for path, text in texts.items():
+        if "AllByRecursion as All" in text:
+            text = text.replace("AllByRecursion as All", "AllByRecursion")
+            texts[path] = NAME.sub(lambda m: "AllByRecursion" if m.group(0) == "All" else m.group(0), text)
     own = set()
     words = set()
     for path, text in texts.items():

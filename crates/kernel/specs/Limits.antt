@@ -1,6 +1,6 @@
 -- The limits of a set-up.
 use Rattle.std.specs.Prelude.{◌≡◌, ℕ, ◌^◌, ◌<◌, ◌≤◌, List, [], ◌∷◌, length}
-use Rattle.std.specs.List.{AllByRecursion as All}
+use Rattle.std.specs.List.{AllByRecursion}
 use Rattle.terms.specs.declared.object_set.ObjectSet.{ObjectSet}
 use Rattle.kernel.specs.Plan.{Plan, total}
 use Rattle.kernel.specs.declared.layout.Pool.{Pool}
@@ -31,10 +31,10 @@ Among n s = s.bits < 2 ^ n
 pub record PlanWithin (p : Plan) : Type 0 where
   pub objects : p.objects ≤ 8
   pub few : length p.pools ≤ 3
-  pub pools : All PoolWithin p.pools
+  pub pools : AllByRecursion PoolWithin p.pools
   pub rising : Rising p.pools
   pub frames : total p.pools ≤ 64
   pub queues : length p.lengths ≡ 8
-  pub lengths : All LengthsWithin p.lengths
+  pub lengths : AllByRecursion LengthsWithin p.lengths
   pub signals : length p.subscribers ≡ 64
-  pub subscribers : All (Among p.objects) p.subscribers
+  pub subscribers : AllByRecursion (Among p.objects) p.subscribers

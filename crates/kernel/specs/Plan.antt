@@ -1,6 +1,6 @@
 -- The set-up of a kernel, and what each set-up call makes of it.
 use Rattle.std.specs.Prelude.{ℕ, ◌+◌, ◌≤◌, Bool, false, cond, ◌&&◌, ◌||◌, List, [], ◌∷◌, ◌++◌, length, replicate, Some, None, Ok, Err, Option, Result, ◌==◌, nat_le, nat_lt}
-use Rattle.std.specs.List.{AllByRecursion as All}
+use Rattle.std.specs.List.{AllByRecursion}
 use Rattle.terms.specs.declared.object_set.ObjectSet.{ObjectSet}
 use Rattle.terms.specs.Entries.{entries, values, replaced, changed}
 use Rattle.terms.specs.Ranges.{between}
@@ -55,7 +55,7 @@ some_holds (p ∷ ps) n = nat_le n p.size || some_holds ps n
 
 -- no pool's frames hold more than eight words
 abbrev pub Small : List the-pool.Pool → Type 0
-Small ps = All (λ p. p.size ≤ 8) ps
+Small ps = AllByRecursion (λ p. p.size ≤ 8) ps
 
 -- a pool that may follow: larger than the one before and of at most 8 words, with at least one frame, and 64 in all
 unfoldable pub next_pool : List the-pool.Pool → ℕ → ℕ → Option the-pool.Pool

@@ -1,7 +1,7 @@
 -- The row that decides, and what an object does by it.
 use Rattle.std.proofs.Common.{◌≡◌, ℕ, ◌≤◌, true, ◌&&◌, eqb, List, [], ◌∷◌, ◌++◌, length, Some, None, sym, refl, ap, ◌∙◌, subst, inl, inr, ⊎_elim, arith}
 use Rattle.std.proofs.lemmas.Bool.{and_parts, eqb-true, eq-eqb, or_left}
-use Rattle.std.specs.List.{AllByRecursion as All}
+use Rattle.std.specs.List.{AllByRecursion}
 use Rattle.terms.specs.Events.{Content}
 use Rattle.objects.specs.Charts.{chain, on_chain, applies, or_else, decides, first_word, acts, by_row, chart_rule}
 use Rattle.tables.specs.Drawing.{ChartDrawing, lets}
@@ -20,7 +20,7 @@ module _ (rows : List Row) (signal word : ℕ) where
   stands_in s r is = eqb-true r.state s (and_parts (eqb r.state s) (eqb r.signal signal && lets r.guard word) is).0
 
   abbrev Found : List ℕ → Row → Type 0
-  Found xs r = (inner : List ℕ) × (outer : List ℕ) × (xs ≡ inner ++ r.state ∷ outer) × All (Passed rows signal word) inner × First (applies r.state signal word) rows r
+  Found xs r = (inner : List ℕ) × (outer : List ℕ) × (xs ≡ inner ++ r.state ∷ outer) × AllByRecursion (Passed rows signal word) inner × First (applies r.state signal word) rows r
 
   found : (xs : List ℕ) (r : Row) → decides rows xs signal word ≡ Some r → Found xs r
   found [] r is = let z : ◌≡◌ {A = ℕ} 0 1 = cc in absurd (omega arith)
@@ -36,7 +36,7 @@ module _ (rows : List Row) (signal word : ℕ) where
       (x ∷ later.0, later.1, ap (λ l. x ∷ l) later.2, (found_none (applies x signal word) rows none, later.3), later.4))
       (told (first_of (applies x signal word) rows))
 
-  found_nowhere : (xs : List ℕ) → decides rows xs signal word ≡ None → All (Passed rows signal word) xs
+  found_nowhere : (xs : List ℕ) → decides rows xs signal word ≡ None → AllByRecursion (Passed rows signal word) xs
   found_nowhere [] is = tt
   found_nowhere (x ∷ xs) is =
       ⊎_elim
@@ -44,7 +44,7 @@ module _ (rows : List Row) (signal word : ℕ) where
       (λ none. (found_none (applies x signal word) rows none, found_nowhere xs (sym (ap (λ o. or_else o (decides rows xs signal word)) none) ∙ is)))
       (told (first_of (applies x signal word) rows))
 
-all_middle : {X : Type 0} (P : X → Type 0) (xs : List X) (x : X) (ys : List X) → All P (xs ++ x ∷ ys) → P x
+all_middle : {X : Type 0} (P : X → Type 0) (xs : List X) (x : X) (ys : List X) → AllByRecursion P (xs ++ x ∷ ys) → P x
 all_middle P [] x ys all = all.0
 all_middle P (y ∷ xs) x ys all = all_middle P xs x ys all.1
 
@@ -56,7 +56,7 @@ module _ (d : ChartDrawing) (w : ChartWithin d) where
 
   by_row_lem : (current : ℕ) (e : Content) (r : Row) → current ≤ length d.states → Found d.rows e.signal (first_word e.words) (chain d.states current) r → Responds d current e (by_row d.states d.sends (Some r) (current ∷ []) current)
   by_row_lem current e r most f =
-      let within = all_middle (RowWithin (length d.sends) (length d.states)) f.4.before r f.4.after (subst (All (RowWithin (length d.sends) (length d.states))) f.4.stands w.rows) in
+      let within = all_middle (RowWithin (length d.sends) (length d.states)) f.4.before r f.4.after (subst (AllByRecursion (RowWithin (length d.sends) (length d.states))) f.4.stands w.rows) in
       let self : On r.state (r.state ∷ f.1) = or_left (eqb r.state r.state) (on_chain r.state f.1) (eq-eqb r.state r.state refl) in
       let active = subst (λ l. On r.state l) (sym f.2) (on_append r.state f.0 (r.state ∷ f.1) self) in
       inl (r, record { inner = f.0; outer = f.1; active = f.2; passed = f.3; first = f.4 }, carried current r.state r.action most active within.action)

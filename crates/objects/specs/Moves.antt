@@ -1,6 +1,6 @@
 -- What the drawing of a chart means: which row decides, which states a move leaves and enters, and in which order.
 use Rattle.std.specs.Prelude.{◌≡◌, ℕ, ◌≤◌, true, false, ◌⊎◌, List, [], ◌∷◌, ◌++◌, reverse, length, ◌≢◌}
-use Rattle.std.specs.List.{AllByRecursion as All}
+use Rattle.std.specs.List.{AllByRecursion}
 use Rattle.terms.specs.Events.{Content}
 use Rattle.terms.specs.declared.send.Send.{Send}
 use Rattle.objects.specs.Charts.{chain, on_chain, first_word, applies, initial_of, move_sends, start_in}
@@ -60,7 +60,7 @@ pub record Decisive (ss : List State) (rows : List Row) (current signal word : �
   pub inner : List ℕ
   pub outer : List ℕ
   pub active : chain ss current ≡ inner ++ r.state ∷ outer
-  pub passed : All (Passed rows signal word) inner
+  pub passed : AllByRecursion (Passed rows signal word) inner
   pub first : First (applies r.state signal word) rows r
 
 -- What a row makes of the current state: a move, with the sends of the row, of the exits and of the entries; a send; or
@@ -76,7 +76,7 @@ Carried ss sends current s Defer response = response ≡ passing Deferred (curre
 abbrev pub Responds : ChartDrawing → ℕ → Content → Response → Type 0
 Responds d current e response =
     ((r : Row) × Decisive d.states d.rows current e.signal (first_word e.words) r × Carried d.states d.sends current r.state r.action response)
-    ⊎ (All (Passed d.rows e.signal (first_word e.words)) (chain d.states current) × (response ≡ passing Ignored (current ∷ [])))
+    ⊎ (AllByRecursion (Passed d.rows e.signal (first_word e.words)) (chain d.states current) × (response ≡ passing Ignored (current ∷ [])))
 
 -- the start: state 1, or where its initial targets lead; 0 where there are no states
 abbrev pub Starts : List State → ℕ → Type 0

@@ -1,7 +1,7 @@
 -- What a Petri object does: the first transition of the event's signal that is enabled fires.
 use Rattle.std.specs.Prelude.{◌≡◌, ℕ, zero, suc, ◌+◌, ◌-◌, ◌<◌, ◌≤◌, Bool, cond, ◌&&◌, ◌⊎◌, List, [], ◌∷◌, ◌++◌, length, is_some, Some, None, Option, ◌==◌, ◌≢◌, nat_le}
 use Rattle.std.specs.Option.{unwrap_or}
-use Rattle.std.specs.List.{AllByRecursion as All}
+use Rattle.std.specs.List.{AllByRecursion}
 use Rattle.terms.specs.Entries.{numbered}
 use Rattle.terms.specs.Events.{Content}
 use Rattle.terms.specs.declared.send.Send.{Send}
@@ -75,11 +75,11 @@ pub record Still (v : Verdict) (s : List ℕ) (r : Response) : Type 0 where
 
 -- each of these that has the signal is blocked
 abbrev pub AllBlocked : ℕ → List ℕ → List Firing → Type 0
-AllBlocked signal marks ts = All (λ t. t.signal ≡ signal → Blocked marks t) ts
+AllBlocked signal marks ts = AllByRecursion (λ t. t.signal ≡ signal → Blocked marks t) ts
 
 -- no transition has the signal
 pub record Ignores (ts : List Firing) (s : List ℕ) (signal : ℕ) (r : Response) : Type 0 where
-  pub none : All (λ t. t.signal ≢ signal) ts
+  pub none : AllByRecursion (λ t. t.signal ≢ signal) ts
   pub still : Still Ignored s r
 
 -- a transition of the signal, behind some and before others

@@ -2,7 +2,7 @@
 use Rattle.std.proofs.Common.{◌≡◌, ℕ, eqb, List, [], ◌∷◌, ◌++◌, sym, refl, ap, ◌∙◌, append_assoc, append-nil}
 use Rattle.std.proofs.ByRecursion.{All-push}
 use Rattle.std.proofs.lemmas.Bool.{cond_both, eqb-true, eqb-false}
-use Rattle.std.specs.List.{flat_map, AllByRecursion as All}
+use Rattle.std.specs.List.{flat_map, AllByRecursion}
 use Rattle.scenario.specs.Files.{last_byte, lines_from, lines_of}
 
 -- a line feed stands behind each
@@ -34,14 +34,14 @@ lines_fed [] last = refl
 lines_fed (b ∷ bs) last = fed_from [] (b ∷ bs) last
 
 abbrev Unfed : List ℕ → Type 0
-Unfed l = All (λ b. b ≡ 10 → ⊥) l
+Unfed l = AllByRecursion (λ b. b ≡ 10 → ⊥) l
 
-unfed_from : (line bs : List ℕ) → Unfed line → All Unfed (lines_from line bs)
+unfed_from : (line bs : List ℕ) → Unfed line → AllByRecursion Unfed (lines_from line bs)
 unfed_from line [] none = tt
 unfed_from line (b ∷ bs) none =
-    cond_both (eqb b 10) (line ∷ lines_from [] bs) (lines_from (line ++ b ∷ []) bs) (All Unfed)
+    cond_both (eqb b 10) (line ∷ lines_from [] bs) (lines_from (line ++ b ∷ []) bs) (AllByRecursion Unfed)
     (λ feed. (none, unfed_from [] bs tt))
     (λ other. unfed_from (line ++ b ∷ []) bs (All-push (λ c. c ≡ 10 → ⊥) line b none (eqb-false b 10 other)))
 
-pub lines_unfed : (bytes : List ℕ) → All Unfed (lines_of bytes)
+pub lines_unfed : (bytes : List ℕ) → AllByRecursion Unfed (lines_of bytes)
 lines_unfed bytes = unfed_from [] bytes tt

@@ -2,7 +2,7 @@
 use Rattle.std.proofs.Common.{◌≡◌, ℕ, eqb, leb, List, [], ◌∷◌, ◌++◌, length, drop, Some, None, Ok, Err, Option, Result, sym, refl, ap, ◌∙◌, subst, inl, inr, arith}
 use Rattle.std.proofs.ByRecursion.{All-push}
 use Rattle.std.proofs.lemmas.Bool.{cond_both, leb-true}
-use Rattle.std.specs.List.{AllByRecursion as All}
+use Rattle.std.specs.List.{AllByRecursion}
 use Rattle.terms.specs.Events.{Content}
 use Rattle.terms.specs.Ranges.{between}
 use Rattle.terms.specs.declared.table.TableFault.{TableFault}
@@ -129,7 +129,7 @@ module _ (p : Plan) where
         (λ _. cond_both (eqb l 103) _ _ Orders (λ _ is. let h = (ok_passed (eqb (length ns) 1) (Ok (dispatch (field ns 0))) (cause.Line Form) o is).1 in let same : dispatch (field ns 0) ≡ o = cc in subst (OrderWithin p) same tt)
         (λ _ is. let z : ◌≡◌ {A = ℕ} 0 1 = cc in absurd (omega arith))))))
 
-small : (ps : List Pool) → All PoolWithin ps → Small ps
+small : (ps : List Pool) → AllByRecursion PoolWithin ps → Small ps
 small [] all = tt
 small (p ∷ ps) all = (all.0.most, small ps all.1)
 
@@ -151,7 +151,7 @@ module _ (s t : Page) (limits : PageWithin s) where
       let kept = keeps u refl in
       subst PageWithin same
       (record {
-        cell = record { three = kept.objects ∙ limits.cell.three; plan = kept.within; drawing = limits.cell.drawing; script = subst (All (OrderWithin u.plan)) (sym none) tt };
+        cell = record { three = kept.objects ∙ limits.cell.three; plan = kept.within; drawing = limits.cell.drawing; script = subst (AllByRecursion (OrderWithin u.plan)) (sym none) tt };
         early = λ _. none;
       })
 

@@ -1,6 +1,6 @@
 -- How the lines of a scenario file are written.
 use Rattle.std.specs.Prelude.{◌≡◌, ℕ, ◌≤◌, List, ◌∷◌, length, decimal}
-use Rattle.std.specs.List.{flat_map, AllByRecursion as All}
+use Rattle.std.specs.List.{flat_map, AllByRecursion}
 
 -- each number behind one space
 abbrev pub spaced : List ℕ → List ℕ
@@ -8,7 +8,7 @@ spaced ns = flat_map (λ n. 32 ∷ decimal n) ns
 
 -- every number of a line is at most 65535
 abbrev pub Numbers : List ℕ → Type 0
-Numbers ns = All (λ n. n ≤ 65535) ns
+Numbers ns = AllByRecursion (λ n. n ≤ 65535) ns
 
 -- a line is its letter, then its numbers
 abbrev pub written : ℕ → List ℕ → List ℕ

@@ -1,6 +1,6 @@
 -- What it means that a scenario file is read, or refused.
 use Rattle.std.specs.Prelude.{◌≡◌, ℕ, ◌+◌, ◌⊎◌, List, [], ◌∷◌, ◌++◌, length, Ok, Err, Result, ◌≢◌}
-use Rattle.std.specs.List.{flat_map, AllByRecursion as All}
+use Rattle.std.specs.List.{flat_map, AllByRecursion}
 use Rattle.scenario.specs.Cell.{Cell}
 use Rattle.scenario.specs.Files.{Whole, WholeFault, file_fault, lines_of, FileIs}
 use Rattle.scenario.specs.Limits.{CellWithin}
@@ -39,7 +39,7 @@ pub record AllSound (bytes : List ℕ) (c : Cell) : Type 0 where
 pub record Law (bytes : List ℕ) : Type 0 where
   -- the lines, with a line feed behind each, are the file, and no line has one inside
   pub lines : Whole bytes → flat_map (λ l. l ++ 10 ∷ []) (lines_of bytes) ≡ bytes
-  pub unbroken : All (λ l. All (λ b. b ≢ 10) l) (lines_of bytes)
+  pub unbroken : AllByRecursion (λ l. AllByRecursion (λ b. b ≢ 10) l) (lines_of bytes)
   -- a file has an answer, and one only
   pub some : (a : Result Cell Fault) × FileIs bytes a
   pub one : (a b : Result Cell Fault) → FileIs bytes a → FileIs bytes b → a ≡ b

@@ -1,6 +1,6 @@
 -- The limits of a scenario.
 use Rattle.std.specs.Prelude.{◌≡◌, ◌<◌, true, [], length}
-use Rattle.std.specs.List.{AllByRecursion as All}
+use Rattle.std.specs.List.{AllByRecursion}
 use Rattle.terms.specs.Events.{Content}
 use Rattle.kernel.specs.Limits.{PlanWithin}
 use Rattle.kernel.specs.Plan.{Plan, some_holds}
@@ -26,7 +26,7 @@ pub record CellWithin (c : Cell) : Type 0 where
   pub three : c.settings.plan.objects ≡ 3
   pub plan : PlanWithin c.settings.plan
   pub drawing : DrawingWithin c.drawing
-  pub script : All (OrderWithin c.settings.plan) c.script
+  pub script : AllByRecursion (OrderWithin c.settings.plan) c.script
 
 -- so far: before the script part there is no script
 pub record PageWithin (s : Page) : Type 0 where

@@ -1,6 +1,6 @@
 -- The limits of the tables of a cell.
 use Rattle.std.specs.Prelude.{◌≡◌, ℕ, ◌<◌, ◌≤◌, true, ◌⊎◌, List, length, Some}
-use Rattle.std.specs.List.{AllByRecursion as All}
+use Rattle.std.specs.List.{AllByRecursion}
 use Rattle.terms.specs.Entries.{numbered}
 use Rattle.terms.specs.declared.send.Send.{Send}
 use Rattle.terms.specs.declared.send.Send.TheVariants.{Post, Publish, Recall}
@@ -60,25 +60,25 @@ pub record FiringWithin (sends : ℕ) (t : Firing) : Type 0 where
   pub signal : From1To 64 t.signal
   pub send : t.send ≤ sends
   pub places : (length t.takes ≡ 8) × (length t.gives ≡ 8)
-  pub takes : All (λ n. n ≤ 255) t.takes
-  pub gives : All (λ n. n ≤ 255) t.gives
+  pub takes : AllByRecursion (λ n. n ≤ 255) t.takes
+  pub gives : AllByRecursion (λ n. n ≤ 255) t.gives
 
 pub record DrawingWithin (d : Drawing) : Type 0 where
   pub few_sends : length d.sends ≤ 32
-  pub sends : All SendWithin d.sends
+  pub sends : AllByRecursion SendWithin d.sends
   pub few_states : length d.states ≤ 32
   pub states : (n : ℕ) (s : State) → numbered d.states n ≡ Some s → StateWithin (length d.sends) d.states n s
   pub few_rows : length d.rows ≤ 64
-  pub rows : All (RowWithin (length d.sends) (length d.states)) d.rows
+  pub rows : AllByRecursion (RowWithin (length d.sends) (length d.states)) d.rows
   pub few_flat_rows : length d.flat_rows ≤ 64
-  pub flat_rows : All (FlatRowWithin (length d.sends)) d.flat_rows
+  pub flat_rows : AllByRecursion (FlatRowWithin (length d.sends)) d.flat_rows
   pub places : length d.marks ≡ 8
-  pub marks : All (λ n. n ≤ 255) d.marks
+  pub marks : AllByRecursion (λ n. n ≤ 255) d.marks
   pub few_transitions : length d.transitions ≤ 8
-  pub transitions : All (FiringWithin (length d.sends)) d.transitions
+  pub transitions : AllByRecursion (FiringWithin (length d.sends)) d.transitions
 
 -- the limits of a chart by itself
 pub record ChartWithin (c : ChartDrawing) : Type 0 where
   pub few_states : length c.states ≤ 32
   pub states : StatesWithin (length c.sends) c.states
-  pub rows : All (RowWithin (length c.sends) (length c.states)) c.rows
+  pub rows : AllByRecursion (RowWithin (length c.sends) (length c.states)) c.rows

@@ -1,6 +1,6 @@
 -- What holds of numbered values after one was replaced, changed or added.
 use Rattle.std.proofs.Common.{◌≡◌, ℕ, zero, suc, ◌≤◌, ◌⊎◌, List, [], ◌∷◌, ◌++◌, length, Some, refl, ap, inl, inr, ⊎_elim, arith, length-set}
-use Rattle.std.specs.List.{AllByRecursion as All}
+use Rattle.std.specs.List.{AllByRecursion}
 use Rattle.std.proofs.ByRecursion.{All-set}
 use Rattle.std.proofs.lemmas.List.{length-take-le}
 use Rattle.terms.specs.declared.table.Table.{Table}
@@ -48,11 +48,11 @@ module _ {T : Type 0} where
       (h.0, h.1, ⊎_elim inl (λ k. inr (ap suc k.0, k.1)) h.2)
 
   module _ (P : T → Type 0) where
-    pub all_replaced : (xs : List T) (n : ℕ) (x : T) → P x → All P xs → All P (replaced xs n x)
+    pub all_replaced : (xs : List T) (n : ℕ) (x : T) → P x → AllByRecursion P xs → AllByRecursion P (replaced xs n x)
     all_replaced xs zero x h all = all
     all_replaced xs (suc n) x h all = All-set P xs n x h all
 
-    pub all_changed : (xs : List T) (n : ℕ) (f : T → T) → ((x : T) → P x → P (f x)) → All P xs → All P (changed xs n f)
+    pub all_changed : (xs : List T) (n : ℕ) (f : T → T) → ((x : T) → P x → P (f x)) → AllByRecursion P xs → AllByRecursion P (changed xs n f)
     all_changed xs zero f keeps all = all
     all_changed [] (suc n) f keeps all = tt
     all_changed (x ∷ xs) (suc zero) f keeps all = (keeps x all.0, all.1)
