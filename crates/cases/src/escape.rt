@@ -3,11 +3,25 @@
 ghost use Rattle.std.specs.Prelude.{◌+◌, ◌<◌, length, IfSome};
 
 use std::alloc::{AllocError, AllocFailed};
+use std::error::Error;
+use std::fmt;
 
+#[derive(Clone, Copy, Debug, PartialEq, Eq)]
 pub(crate) enum Trouble {
     Malformed,
     Memory,
 }
+
+impl fmt::Display for Trouble {
+    fn fmt<W: fmt::Write>(&self, f: &mut fmt::Formatter<W>) -> fmt::Result {
+        match self {
+            Trouble::Malformed => write!(f, "a case is malformed"),
+            Trouble::Memory => write!(f, "out of memory"),
+        }
+    }
+}
+
+impl Error for Trouble {}
 
 impl From<AllocError> for Trouble {
     fn from(_e: AllocError) -> Trouble {
@@ -25,12 +39,8 @@ impl<T: Drop> From<AllocFailed<T>> for Trouble {
 pub(crate) fn cut(text: &[u8], b: u8) -> Option<(&[u8], &[u8])>
     ensures { IfSome result (λ p. length p.0.now + length p.1.now < length text.now) }
 {
-    for (i, x) in text.iter().enumerate() {
-        if *x == b {
-            return Some((&text[0..i], &text[i + 1..]));
-        }
-    }
-    None
+    let at = text.iter().position(|x| *x == b)?;
+    Some((&text[..at], &text[at + 1..]))
 }
 
 fn hex(digit: u8) -> Option<u8>
@@ -47,57 +57,43 @@ fn hex(digit: u8) -> Option<u8>
 fn first_byte(text: &[u8]) -> Option<(u8, &[u8])>
     ensures { IfSome result (λ p. length p.1.now < length text.now) }
 {
-    let Some((first, after)) = text.split_first() else {
-        return None;
-    };
-    match *first {
-        b'/' => Some((b'\n', after)),
-        b'%' => {
-            if after.len() < 2 {
-                return None;
-            }
-            let high = hex(after[0])?;
-            let low = hex(after[1])?;
-            Some((high * 16 + low, &after[2..]))
-        }
-        b => Some((b, after)),
+    match text {
+        [b'/', after @ ..] => Some((b'\n', after)),
+        [b'%', high, low, after @ ..] => Some((hex(*high)? * 16 + hex(*low)?, after)),
+        [] | [b'%', ..] => None,
+        [b, after @ ..] => Some((*b, after)),
     }
 }
 
 // Text without repetitions.
 fn plain(text: &[u8], out: &mut Vec<u8>) -> Result<(), Trouble> {
     let mut rest = text;
-    while !rest.is_empty() {
-        let Some((b, after)) = first_byte(rest) else {
-            return Err(Trouble::Malformed);
-        };
+    while let Some((b, after)) = first_byte(rest) {
         out.push(b)?;
         rest = after;
     }
-    Ok(())
+    if rest.is_empty() {
+        Ok(())
+    } else {
+        Err(Trouble::Malformed)
+    }
 }
 
 // What decimal digits write; a repetition is of at most nine digits.
 fn count_of(digits: &[u8]) -> u32 {
-    let mut count: u32 = 0;
-    for d in digits {
-        count = count
+    digits.iter().fold(0, |count: u32, digit| {
+        count
             .wrapping_mul(10)
-            .wrapping_add(u32::from(*d).wrapping_sub(48));
-    }
-    count
+            .wrapping_add(u32::from(*digit).wrapping_sub(48))
+    })
 }
 
 pub(crate) fn expand(text: &[u8], out: &mut Vec<u8>) -> Result<(), Trouble> {
     let mut rest = text;
     while let Some((before, inside)) = cut(rest, b'{') {
         plain(before, out)?;
-        let Some((count, more)) = cut(inside, b':') else {
-            return Err(Trouble::Malformed);
-        };
-        let Some((body, after)) = cut(more, b'}') else {
-            return Err(Trouble::Malformed);
-        };
+        let (count, more) = cut(inside, b':').ok_or(Trouble::Malformed)?;
+        let (body, after) = cut(more, b'}').ok_or(Trouble::Malformed)?;
         for _ in 0..count_of(count) {
             plain(body, out)?;
         }

@@ -3,16 +3,16 @@ use Rattle.std.proofs.Common.{◌≡◌, ℕ, ◌-◌, ◌<◌, ◌≤◌, List,
 use Rattle.std.proofs.lemmas.Nat.{or_lt, pow_below, pow_pos}
 use Rattle.std.proofs.ByRecursion.{All-push}
 use Rattle.std.proofs.lemmas.List.{length_push}
+use Rattle.std.proofs.lemmas.List.Sums.{sum_by_push}
 use Rattle.std.proofs.lemmas.Bool.Decides.{nat_tests}
 use Rattle.terms.specs.Sets.{weight, joins}
-use Rattle.terms.specs.declared.object_set.ObjectSet.{ObjectSet}
 use Rattle.terms.proofs.Held.{length-replaced, length-changed, all_replaced, all_changed}
 use Rattle.terms.proofs.Members.{weight_in}
 use Rattle.kernel.specs.Limits.{PlanWithin, PoolWithin, Rising, LengthsWithin, Among}
-use Rattle.kernel.specs.Plan.{Plan, next_pool, blank, largest, add_pool, set_lengths, subscribed}
+use Rattle.kernel.specs.Plan.{Plan, blank, add_pool, set_lengths, subscribed}
+use Rattle.kernel.specs.Pools.{next_pool, largest}
 use Rattle.kernel.specs.declared.layout.Pool.{Pool}
 use Rattle.kernel.specs.declared.layout.Lengths.{Lengths}
-use Rattle.kernel.proofs.Pools.{total_push}
 
 pub blank_within : (n : ℕ) → n ≤ 8 → PlanWithin (blank n)
 blank_within n few =
@@ -32,7 +32,7 @@ pool_kept p q size count is w =
     let few = length_push p.pools new in
     let pools = All-push PoolWithin p.pools new w.pools (grind (arith, nat_tests)) in
     let rising = rising_push p.pools new w.rising (grind (arith, nat_tests)) in
-    let frames = total_push p.pools new in
+    let frames = sum_by_push (λ (q : Pool). q.count) p.pools new in
     grind (arith, nat_tests)
 
 pub objects_kept_by_pool : (p q : Plan) (size count : ℕ) → add_pool p size count ≡ Ok q → q.objects ≡ p.objects
@@ -50,9 +50,9 @@ pub objects_kept_by_lengths : (p q : Plan) (object queue deferral : ℕ) → set
 objects_kept_by_lengths p q object queue deferral is = grind (arith, nat_tests)
 
 -- an object from 1 to n joins a set of such objects
-joins_among : (n o : ℕ) → 1 ≤ o → o ≤ n → n ≤ 8 → (s : ObjectSet) → Among n s → Among n (joins o s)
+joins_among : (n o : ℕ) → 1 ≤ o → o ≤ n → n ≤ 8 → (s : ℕ) → Among n s → Among n (joins o s)
 joins_among n o least most few s within =
-    or_lt n s.bits (weight o) within (rw (weight_in o least (omega arith)) (pow_below (o - 1) n (omega arith)))
+    or_lt n s (weight o) within (rw (weight_in o least (omega arith)) (pow_below (o - 1) n (omega arith)))
 
 pub subscribed_kept : (p q : Plan) (object signal : ℕ) → subscribed p object signal ≡ Ok q → PlanWithin p → PlanWithin q
 subscribed_kept p q object signal is w =

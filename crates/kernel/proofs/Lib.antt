@@ -1,2 +1,3 @@
+pub mod Grown
 pub mod Kept
-pub mod Pools
+pub mod Subscribed

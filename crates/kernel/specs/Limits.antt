@@ -2,7 +2,8 @@
 use Rattle.std.specs.Prelude.{◌≡◌, ℕ, ◌^◌, ◌<◌, ◌≤◌, List, [], ◌∷◌, length}
 use Rattle.std.specs.List.{AllByRecursion}
 use Rattle.terms.specs.declared.object_set.ObjectSet.{ObjectSet}
-use Rattle.kernel.specs.Plan.{Plan, total}
+use Rattle.kernel.specs.Plan.{Plan}
+use Rattle.kernel.specs.Pools.{total}
 use Rattle.kernel.specs.declared.layout.Pool.{Pool}
 use Rattle.kernel.specs.declared.layout.Lengths.{Lengths}
 
@@ -26,7 +27,7 @@ pub record LengthsWithin (l : Lengths) : Type 0 where
 
 -- no other object than 1 to n is in the set
 abbrev pub Among : ℕ → ObjectSet → Type 0
-Among n s = s.bits < 2 ^ n
+Among n s = s < 2 ^ n
 
 pub record PlanWithin (p : Plan) : Type 0 where
   pub objects : p.objects ≤ 8

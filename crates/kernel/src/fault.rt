@@ -4,7 +4,7 @@ ghost use Rattle.kernel.specs.Faults.{refusal_of};
 
 use terms::refusal::Refusal;
 
-#[derive(Clone, Copy)]
+#[derive(Clone, Copy, Debug, PartialEq, Eq)]
 pub enum SetupFault {
     Object,
     Signal,
@@ -13,11 +13,11 @@ pub enum SetupFault {
     Value,
 }
 
-impl SetupFault {
-    pub fn refusal(self) -> Refusal
-        ensures { result ≡ refusal_of self }
-    {
-        match self {
+impl From<SetupFault> for Refusal {
+    ghost from_gives = { λ fault refusal. refusal ≡ refusal_of fault };
+
+    fn from(fault: SetupFault) -> Refusal {
+        match fault {
             SetupFault::Object => Refusal::Object,
             SetupFault::Signal => Refusal::Signal,
             SetupFault::Pool => Refusal::Pool,

@@ -20,7 +20,6 @@
 mod text;
 mod trio;
 
-use anyhow::anyhow;
 use objects::chart_object::ChartObject;
 use objects::worked::five_states;
 use policies::policy::Policy;
@@ -32,14 +31,14 @@ use scenario::script::Command;
 use std::io::{BufRead, BufReader};
 use terms::event::Event;
 use terms::object_set::ObjectSet;
-use text::{Sent, letter};
+use text::Sent;
 use trio::Trio;
 
 // Gives an event to an object and prints what it does.
 fn step(rt: &HostRuntime, trio: &mut Trio, object: u8, event: &Event) -> anyhow::Result<()> {
     let reaction = trio.handle(object, event);
     let signal = event.signal();
-    let verdict = letter(reaction.verdict);
+    let verdict = reaction.verdict;
     let state = trio.standing(object);
     let sends = Sent(reaction.sends.as_slice());
     println!(rt; "{object} {signal} {verdict} {state}{sends}")?;
@@ -66,11 +65,8 @@ fn block(rt: &HostRuntime, number: u64, file: &str) -> anyhow::Result<()> {
     println!(rt; "block {number}")?;
     match read(heap, file.as_bytes()) {
         Ok(scenario) => play(rt, &scenario),
-        Err(ReadError::Faulty(fault)) => {
-            rt.print(fault_line(heap, fault)?)?;
-            Ok(())
-        }
-        Err(ReadError::Memory) => Err(anyhow!("out of memory")),
+        Err(ReadError::Faulty(fault)) => Ok(rt.print(fault_line(heap, fault)?)?),
+        Err(error) => Err(error.into()),
     }
 }
 
@@ -95,11 +91,9 @@ fn pick_all<P: Policy>(rt: &HostRuntime, name: &str, policy: &mut P) -> anyhow::
 }
 
 fn set_of(members: &[u8]) -> ObjectSet {
-    let mut set = ObjectSet::EMPTY;
-    for member in members {
-        set = set.with(*member);
-    }
-    set
+    members
+        .iter()
+        .fold(ObjectSet::EMPTY, |set, member| set.with(*member))
 }
 
 fn run(rt: &HostRuntime) -> anyhow::Result<()> {

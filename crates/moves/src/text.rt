@@ -1,20 +1,6 @@
-// Verdicts, states and sends as text.
-ghost use Rattle.std.specs.Prelude.{◌≡◌};
-ghost use Rattle.moves.specs.Letters.{letter_of};
-
-use objects::reaction::Verdict;
+// States and sends as text.
 use std::fmt;
 use terms::send::Send;
-
-pub(crate) fn letter(verdict: Verdict) -> char
-    ensures { result ≡ letter_of verdict }
-{
-    match verdict {
-        Verdict::Handled => 'H',
-        Verdict::Deferred => 'D',
-        Verdict::Ignored => 'I',
-    }
-}
 
 // The state that an object is in: the marks of a net, or the number of a state.
 #[derive(Drop)]

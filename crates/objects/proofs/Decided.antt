@@ -1,48 +1,46 @@
 -- The row that decides, and what an object does by it.
-use Rattle.std.proofs.Common.{◌≡◌, ℕ, ◌≤◌, true, ◌&&◌, eqb, List, [], ◌∷◌, ◌++◌, length, Some, None, sym, refl, ap, ◌∙◌, subst, inl, inr, ⊎_elim, arith}
+use Rattle.std.proofs.Common.{◌≡◌, ℕ, ◌≤◌, true, ◌&&◌, eqb, List, [], ◌∷◌, ◌++◌, length, find, Option, Some, None, sym, refl, ap, ◌∙◌, subst, inl, inr, ⊎_elim}
 use Rattle.std.proofs.lemmas.Bool.{and_parts, eqb-true, eq-eqb, or_left}
 use Rattle.std.specs.List.{AllByRecursion}
+use Rattle.std.proofs.ByRecursion.{All-weaker}
 use Rattle.terms.specs.Events.{Content}
-use Rattle.objects.specs.Charts.{chain, on_chain, applies, or_else, decides, first_word, acts, by_row, chart_rule}
+use Rattle.objects.specs.Charts.{chain, on_chain, applies, decides, first_word, acts, by_row, chart_rule}
 use Rattle.tables.specs.Drawing.{ChartDrawing, lets}
-use Rattle.objects.specs.Finding.{first_of, First}
+use Rattle.terms.specs.declared.send.Send.{Send}
+use Rattle.objects.specs.declared.reaction.Verdict.{Verdict}
+use Rattle.objects.specs.Crews.{Reacts}
+use Rattle.objects.specs.Finding.{First}
 use Rattle.tables.specs.Limits.{ChartWithin, RowWithin, ActionWithin}
 use Rattle.objects.specs.Moves.{On, Passed, Carried, Responds, ChartAsDrawn}
 use Rattle.tables.specs.declared.chart.Action.{Action}
 use Rattle.tables.specs.declared.chart.Action.TheVariants.{Move, Stay, Defer}
 use Rattle.tables.specs.declared.chart.Row.{Row}
 use Rattle.objects.proofs.Drawn.{chain_top, chain_up, distinct, moved, started, start_declared, on_append}
-use Rattle.objects.proofs.Firsts.{told, found_first, found_none}
+use Rattle.objects.proofs.Firsts.{told, found_first, found_none, given, given_none}
 
 module _ (rows : List Row) (signal word : ℕ) where
   -- a row that applies in a state stands in it
   stands_in : (s : ℕ) (r : Row) → applies s signal word r ≡ true → r.state ≡ s
   stands_in s r is = eqb-true r.state s (and_parts (eqb r.state s) (eqb r.signal signal && lets r.guard word) is).0
 
+  abbrev first_row : ℕ → Option Row
+  first_row s = find (applies s signal word) rows
+
+  passed : (xs : List ℕ) → AllByRecursion (λ s. first_row s ≡ None) xs → AllByRecursion (Passed rows signal word) xs
+  passed xs none = All-weaker _ _ (λ s is. found_none (applies s signal word) rows is) xs none
+
   abbrev Found : List ℕ → Row → Type 0
   Found xs r = (inner : List ℕ) × (outer : List ℕ) × (xs ≡ inner ++ r.state ∷ outer) × AllByRecursion (Passed rows signal word) inner × First (applies r.state signal word) rows r
 
   found : (xs : List ℕ) (r : Row) → decides rows xs signal word ≡ Some r → Found xs r
-  found [] r is = let z : ◌≡◌ {A = ℕ} 0 1 = cc in absurd (omega arith)
-  found (x ∷ xs) r is =
-      ⊎_elim
-      (λ some.
-      let same : some.0 ≡ r = let e : Some some.0 ≡ Some r = sym (ap (λ o. or_else o (decides rows xs signal word)) some.1) ∙ is in cc in
-      let first = subst (First (applies x signal word) rows) same (found_first (applies x signal word) rows some.0 some.1) in
-      let here = stands_in x r first.passes in
-      ([], xs, ap (λ (s : ℕ). s ∷ xs) (sym here), tt, subst (λ (s : ℕ). First (applies s signal word) rows r) (sym here) first))
-      (λ none.
-      let later = found xs r (sym (ap (λ o. or_else o (decides rows xs signal word)) none) ∙ is) in
-      (x ∷ later.0, later.1, ap (λ l. x ∷ l) later.2, (found_none (applies x signal word) rows none, later.3), later.4))
-      (told (first_of (applies x signal word) rows))
+  found xs r is =
+      let g = given first_row xs r is in
+      let first = found_first (applies g.chosen signal word) rows r g.gives in
+      let here = stands_in g.chosen r first.passes in
+      (g.before, g.after, g.order ∙ ap (λ (s : ℕ). g.before ++ s ∷ g.after) (sym here), passed g.before g.earlier, subst (λ (s : ℕ). First (applies s signal word) rows r) (sym here) first)
 
   found_nowhere : (xs : List ℕ) → decides rows xs signal word ≡ None → AllByRecursion (Passed rows signal word) xs
-  found_nowhere [] is = tt
-  found_nowhere (x ∷ xs) is =
-      ⊎_elim
-      (λ some. let e : Some some.0 ≡ None = sym (ap (λ o. or_else o (decides rows xs signal word)) some.1) ∙ is in let z : ◌≡◌ {A = ℕ} 0 1 = cc in absurd (omega arith))
-      (λ none. (found_none (applies x signal word) rows none, found_nowhere xs (sym (ap (λ o. or_else o (decides rows xs signal word)) none) ∙ is)))
-      (told (first_of (applies x signal word) rows))
+  found_nowhere xs is = passed xs (given_none first_row xs is)
 
 all_middle : {X : Type 0} (P : X → Type 0) (xs : List X) (x : X) (ys : List X) → AllByRecursion P (xs ++ x ∷ ys) → P x
 all_middle P [] x ys all = all.0
@@ -61,7 +59,7 @@ module _ (d : ChartDrawing) (w : ChartWithin d) where
       let active = subst (λ l. On r.state l) (sym f.2) (on_append r.state f.0 (r.state ∷ f.1) self) in
       inl (r, record { inner = f.0; outer = f.1; active = f.2; passed = f.3; first = f.4 }, carried current r.state r.action most active within.action)
 
-  responds : (current : ℕ) → current ≤ length d.states → (e : Content) → Responds d current e (chart_rule d.states d.rows d.sends (current ∷ []) e)
+  responds : (current : ℕ) → current ≤ length d.states → (e : Content) → Responds d current e (chart_rule d (current ∷ []) e)
   responds current most e =
       let word = first_word e.words in
       ⊎_elim
@@ -69,7 +67,7 @@ module _ (d : ChartDrawing) (w : ChartWithin d) where
       (λ none. rw none (inr (found_nowhere d.rows e.signal word (chain d.states current) none, refl)))
       (told (decides d.rows (chain d.states current) e.signal word))
 
-  pub as_drawn : ChartAsDrawn d (chart_rule d.states d.rows d.sends)
+  pub as_drawn : ChartAsDrawn d (chart_rule d)
   as_drawn =
       record {
         top = chain_top d.states;
@@ -79,3 +77,7 @@ module _ (d : ChartDrawing) (w : ChartWithin d) where
         stands = start_declared (length d.sends) d.states w.states;
         responds = responds;
       }
+
+-- what the rule answers is what the drawing says
+pub responded : (d : ChartDrawing) (s : ℕ) (e : Content) (v : Verdict) (next : List ℕ) (out : List Send) → Reacts 1 1 (chart_rule d) (s ∷ []) e v out next → ChartWithin d → s ≤ length d.states → Responds d s e (record { verdict = v; next = next; sends = out })
+responded d s e v next out told within most = subst (Responds d s e) (λ i. record { verdict = sym told.verdict i; next = sym told.state i; sends = sym told.sends i }) ((as_drawn d within).responds s most e)

@@ -1,16 +1,18 @@
 -- A chart within its limits moves as it is drawn.
-use Rattle.std.proofs.Common.{◌≡◌, ℕ, zero, suc, ◌+◌, ◌-◌, ◌<◌, ◌≤◌, Bool, true, false, cond, ◌||◌, eqb, ◌⊎◌, List, [], ◌∷◌, ◌++◌, length, get_or, Some, Option, sym, refl, ap, ◌∙◌, subst, inl, inr, ⊎_elim, arith}
+use Rattle.std.proofs.Common.{◌≡◌, ℕ, zero, suc, ◌+◌, ◌-◌, ◌<◌, ◌≤◌, Bool, true, false, cond, ◌||◌, eqb, ◌⊎◌, List, [], ◌∷◌, ◌++◌, length, get_or, find, not, take, unwrap_or, Some, None, Option, add_comm, add-one, sym, refl, ap, ◌∙◌, subst, inl, inr, ⊎_elim, arith}
 use Rattle.std.proofs.lemmas.List.{reverse-reverse}
 use Rattle.std.proofs.lemmas.Bool.{cond-true, cond-false, cases_Bool, cases_eq, eqb-true, eq-eqb, ne_eqb, or_cases, or_left, or_right, false≢true}
+use Rattle.std.specs.List.{position_or_len}
 use Rattle.terms.specs.Entries.{numbered}
 use Rattle.terms.proofs.Numbered.{numbered_in}
-use Rattle.objects.specs.Charts.{climb, chain, on_chain, or_top, meeting, base_of, below, initial_of, initial_in, settle, reached, left, entered, start_in}
+use Rattle.objects.specs.Charts.{climb, chain, on_chain, meeting, base_of, below, initial_of, initial_in, settle, reached, left, entered, start_in}
 use Rattle.tables.specs.Drawing.{parent_of, up, descends}
-use Rattle.objects.specs.Finding.{first_of}
 use Rattle.tables.specs.Limits.{From1To, StatesWithin}
 use Rattle.objects.specs.Moves.{On, Distinct, Base, Settles, rests, follows, Moved, Starts}
 use Rattle.tables.specs.declared.chart.State.{State}
-use Rattle.objects.specs.Walks.{climb_top, few_chain}
+use Rattle.objects.specs.Walks.{few_chain}
+use Rattle.objects.proofs.Climbs.{climb_top, settle_none, settle_some}
+use Rattle.objects.proofs.Firsts.{told}
 
 pub on_append : (x : ℕ) (xs ys : List ℕ) → On x ys → On x (xs ++ ys)
 on_append x [] ys on = on
@@ -26,13 +28,17 @@ climb_enough ss zero n is = sym (climb_top ss 1 n is)
 climb_enough ss (suc k) zero is = refl
 climb_enough ss (suc k) (suc m) is = ap (λ l. suc m ∷ l) (climb_enough ss k (parent_of ss (suc m)) is)
 
-top_or : (b : Bool) (s : ℕ) (o : Option ℕ) → or_top (cond b (Some s) o) ≡ cond b s (or_top o)
+top_or : (b : Bool) (s : ℕ) (o : Option ℕ) → unwrap_or (cond b (Some s) o) 0 ≡ cond b s (unwrap_or o 0)
 top_or true s o = refl
 top_or false s o = refl
 
+-- a state is below the base, or the base ends what is below it
+below-cons : (base x : ℕ) (xs : List ℕ) → below base (x ∷ xs) ≡ cond (eqb x base) [] (x ∷ below base xs)
+below-cons base x xs = elim (eqb x base) as (λ b. take (cond (not b) (1 + position_or_len (λ y. eqb y base) xs) 0) (x ∷ xs) ≡ cond b [] (x ∷ below base xs)) [ true ↦ refl | false ↦ rw (add_comm 1 (position_or_len (λ y. eqb y base) xs), add-one) refl ]
+
 module _ (sends : ℕ) (ss : List State) (within : StatesWithin sends ss) where
   stated : (n : ℕ) → From1To (length ss) n → (s : State) × (numbered ss n ≡ Some s)
-  stated n d = let blank : State = record { parent = 0; entry = 0; exit = 0; initial = 0 } in (get_or ss (n - 1) blank, numbered_in ss n blank d.0 d.1)
+  stated n d = let blank : State = record { parent = 0; entry = None; exit = None; initial = None } in (get_or ss (n - 1) blank, numbered_in ss n blank d.0 d.1)
 
   parent_falls : (n : ℕ) → From1To (length ss) n → parent_of ss n < n
   parent_falls n d = let s = stated n d in let low = (within n s.0 s.1).parent in rw s.1 low
@@ -92,7 +98,7 @@ module _ (sends : ℕ) (ss : List State) (within : StatesWithin sends ss) where
       every (λ n. Upward b n → chain ss n ≡ below b (chain ss n) ++ chain ss b)
       (λ u. ⊎_elim (λ (is : b ≡ 0). rw (chain_top ss, is, chain_top ss) refl) (λ on. absurd (on_none b on)) u)
       (λ n d above u.
-      rw (chain_up n d)
+      rw (chain_up n d, below-cons b n (chain ss (parent_of ss n)))
       (⊎_elim
       (λ (is : n ≡ b). rw (cond-true (eqb n b) [] (n ∷ below b (chain ss (parent_of ss n))) (eq-eqb n b is)) (sym (chain_up n d) ∙ ap (chain ss) is))
       (λ (other : n ≡ b → ⊥). rw (cond-false (eqb n b) [] (n ∷ below b (chain ss (parent_of ss n))) (ne_eqb n b other)) (ap (λ l. n ∷ l) (above (⊎_elim inl (λ on. ⊎_elim (λ is. absurd (other is)) inr (on_cases n b d on)) u))))
@@ -125,34 +131,37 @@ module _ (sends : ℕ) (ss : List State) (within : StatesWithin sends ss) where
       (λ more. ⊎_elim (λ two. let c = climbs n 2 t low most (eqb-true _ n two) in (c.0, omega (arith, c.1))) (λ three. let c = climbs n 3 t low most (eqb-true _ n three) in (c.0, omega (arith, c.1))) (or_cases (eqb (up ss 2 t) n) (eqb (up ss 3 t) n) more))
       (or_cases (eqb (up ss 1 t) n) (eqb (up ss 2 t) n || eqb (up ss 3 t) n) is)
 
-  initial_inside : (n : ℕ) → From1To (length ss) n → (initial_of ss n ≡ 0 → ⊥) → From1To (length ss) (initial_of ss n) × On n (chain ss (initial_of ss n)) × (length (chain ss n) < length (chain ss (initial_of ss n)))
-  initial_inside n d some =
+  initial_inside : (n t : ℕ) → From1To (length ss) n → initial_of ss n ≡ Some t → From1To (length ss) t × On n (chain ss t) × (length (chain ss n) < length (chain ss t))
+  initial_inside n t d some =
       let s = stated n d in
-      let same : initial_of ss n ≡ s.0.initial = ap initial_in s.1 in
-      rw same
-      (⊎_elim (λ none. absurd (some (same ∙ none))) (λ w. let i = inside n s.0.initial d.0 w.0.1 w.1 in (w.0, i.0, i.1)) (within n s.0 s.1).initial)
+      let initial : s.0.initial ≡ Some t = sym (ap initial_in s.1) ∙ some in
+      let w : From1To (length ss) t × (descends ss t n ≡ true) = rw initial at (within n s.0 s.1).initial in
+      let i = inside n t d.0 w.0.1 w.1 in
+      (w.0, i.0, i.1)
 
   -- a state is on the chain of the one to which its initial targets lead
   settled_on : (k t : ℕ) → From1To (length ss) t → From1To (length ss) (settle ss k t) × On t (chain ss (settle ss k t))
   settled_on zero t d = (d, on_self t d)
   settled_on (suc k) t d =
-      ⊎_elim (λ none. rw (cond-true (eqb (initial_of ss t) 0) t (settle ss k (initial_of ss t)) (eq-eqb (initial_of ss t) 0 none)) (d, on_self t d))
+      ⊎_elim
       (λ some.
-      let i = initial_inside t d some in
-      let more = settled_on k (initial_of ss t) i.0 in
-      rw (cond-false (eqb (initial_of ss t) 0) t (settle ss k (initial_of ss t)) (ne_eqb (initial_of ss t) 0 some)) (more.0, on_on t (initial_of ss t) (settle ss k (initial_of ss t)) more.0.1 more.1 i.1))
-      (cases_eq (initial_of ss t) 0)
+      let i = initial_inside t some.0 d some.1 in
+      let more = settled_on k some.0 i.0 in
+      rw (settle_some ss k t some.0 some.1) (more.0, on_on t some.0 (settle ss k some.0) more.0.1 more.1 i.1))
+      (λ none. rw (settle_none ss k t none) (d, on_self t d))
+      (told (initial_of ss t))
 
   -- a chain of four states has no room for more initial targets
   settled : (k t : ℕ) → From1To (length ss) t → 4 ≤ k + length (chain ss t) → Settles ss t (settle ss k t)
   settled zero t d long =
-      rests t (⊎_elim (λ none. none) (λ some. let i = initial_inside t d some in absurd (omega (arith, i.2, few_chain ss (initial_of ss t)))) (cases_eq (initial_of ss t) 0))
+      rests t (⊎_elim (λ some. let i = initial_inside t some.0 d some.1 in absurd (omega (arith, i.2, few_chain ss some.0))) (λ none. none) (told (initial_of ss t)))
   settled (suc k) t d long =
-      ⊎_elim (λ none. rw (cond-true (eqb (initial_of ss t) 0) t (settle ss k (initial_of ss t)) (eq-eqb (initial_of ss t) 0 none)) (rests t none))
+      ⊎_elim
       (λ some.
-      let i = initial_inside t d some in
-      rw (cond-false (eqb (initial_of ss t) 0) t (settle ss k (initial_of ss t)) (ne_eqb (initial_of ss t) 0 some)) (follows t (settle ss k (initial_of ss t)) some (settled k (initial_of ss t) i.0 (omega (arith, i.2)))))
-      (cases_eq (initial_of ss t) 0)
+      let i = initial_inside t some.0 d some.1 in
+      rw (settle_some ss k t some.0 some.1) (follows t some.0 (settle ss k some.0) some.1 (settled k some.0 i.0 (omega (arith, i.2)))))
+      (λ none. rw (settle_none ss k t none) (rests t none))
+      (told (initial_of ss t))
 
   settles : (t : ℕ) → From1To (length ss) t → Settles ss t (reached ss t)
   unfolding reached
@@ -162,16 +171,16 @@ module _ (sends : ℕ) (ss : List State) (within : StatesWithin sends ss) where
   unfolding reached
   reached_on t d = settled_on 3 t d
 
-  settled_final : (s r : ℕ) → Settles ss s r → initial_of ss r ≡ 0
+  settled_final : (s r : ℕ) → Settles ss s r → initial_of ss r ≡ None
   settled_final _ _ (rests s none) = none
-  settled_final _ _ (follows s r some more) = settled_final (initial_of ss s) r more
+  settled_final _ _ (follows s t r some more) = settled_final t r more
 
   -- where two chains meet is on both, and every state on both is there or above
   abbrev met : ℕ → ℕ → ℕ
   met s t = meeting (chain ss s) (chain ss t)
 
   met_up : (s t : ℕ) → From1To (length ss) s → met s t ≡ cond (on_chain s (chain ss t)) s (met (parent_of ss s) t)
-  met_up s t d = ap (λ l. meeting l (chain ss t)) (chain_up s d) ∙ top_or (on_chain s (chain ss t)) s (first_of (λ x. on_chain x (chain ss t)) (chain ss (parent_of ss s)))
+  met_up s t d = ap (λ l. meeting l (chain ss t)) (chain_up s d) ∙ top_or (on_chain s (chain ss t)) s (find (λ x. on_chain x (chain ss t)) (chain ss (parent_of ss s)))
 
   met_both : (t s : ℕ) → s ≤ length ss → (met s t ≡ 0) ⊎ (On (met s t) (chain ss s) × On (met s t) (chain ss t))
   met_both t =

@@ -1,9 +1,9 @@
--- The first of several that passes a test, met by going through them, and as a relation.
-use Rattle.std.proofs.Common.{◌≡◌, ℕ, ◌+◌, ◌<◌, ◌≤◌, Bool, true, false, cond, ◌⊎◌, List, [], ◌∷◌, map, length, get_or, drop, Some, None, Option, sym, refl, ap, ◌∙◌, inl, inr, ⊎_elim, arith}
-use Rattle.std.proofs.lemmas.List.{at_drop_more, at_drop_all}
+-- What is found is the first that passes.
+use Rattle.std.proofs.Common.{◌≡◌, ℕ, zero, suc, get_or, ◌<◌, length, ◌++◌, Bool, true, false, cond, ◌||◌, ◌⊎◌, is_some, List, [], ◌∷◌, find, Some, None, Option, sym, refl, ap, ◌∙◌, inl, inr, ⊎_elim, arith}
 use Rattle.std.proofs.lemmas.Bool.{cond-true, cond-false, cases_Bool}
-use Rattle.std.specs.Option.{option_map}
-use Rattle.objects.specs.Finding.{first_of, NoneOf, First}
+use Rattle.std.specs.List.{AllByRecursion, list_any}
+use Rattle.std.specs.Option.{option_or, MatchOption}
+use Rattle.objects.specs.Finding.{first_given, NoneOf, First}
 
 -- something is found, or nothing
 pub told : {X : Type 0} (o : Option X) → ((x : X) × (o ≡ Some x)) ⊎ (o ≡ None)
@@ -11,19 +11,6 @@ told None = inr refl
 told (Some x) = inl (x, refl)
 
 module _ {X : Type 0} (p : X → Bool) where
-  -- the item at place i passes
-  pub first_here : (xs : List X) (i : ℕ) (x : X) → i < length xs → x ≡ get_or xs i x → p x ≡ true → first_of p (drop i xs) ≡ Some x
-  first_here xs i x lt is holds =
-      at_drop_more (first_of p) xs i x lt ∙ ap (λ y. first_of p (y ∷ drop (i + 1) xs)) (sym is) ∙ cond-true (p x) (Some x) _ holds
-
-  -- it does not
-  pub first_later : (xs : List X) (i : ℕ) (x : X) → i < length xs → x ≡ get_or xs i x → p x ≡ false → first_of p (drop i xs) ≡ first_of p (drop (i + 1) xs)
-  first_later xs i x lt is out =
-      at_drop_more (first_of p) xs i x lt ∙ ap (λ y. first_of p (y ∷ drop (i + 1) xs)) (sym is) ∙ cond-false (p x) (Some x) _ out
-
-  pub first_nowhere : (xs : List X) (i : ℕ) → length xs ≤ i → first_of p (drop i xs) ≡ None
-  first_nowhere xs i le = at_drop_all (first_of p) xs i le
-
   after_one : (x y : X) (xs : List X) → p x ≡ false → First p xs y → First p (x ∷ xs) y
   after_one x y xs out f =
       record {
@@ -35,30 +22,74 @@ module _ {X : Type 0} (p : X → Bool) where
       }
 
   -- what is found is the first that passes
-  pub found_first : (xs : List X) (y : X) → first_of p xs ≡ Some y → First p xs y
-  found_first [] y is = let z : ◌≡◌ {A = ℕ} 0 1 = cc in absurd (omega arith)
+  pub found_first : (xs : List X) (y : X) → find p xs ≡ Some y → First p xs y
+  found_first [] y is = absurd (cc)
   found_first (x ∷ xs) y is =
       ⊎_elim
-      (λ holds. let same : x ≡ y = let s : Some x ≡ Some y = sym (cond-true (p x) (Some x) (first_of p xs) holds) ∙ is in cc in
+      (λ holds. let same : x ≡ y = let s : Some x ≡ Some y = sym (cond-true (p x) (Some x) (find p xs) holds) ∙ is in cc in
       record { before = []; after = xs; stands = ap (λ l. l ∷ xs) same; passes = ap p (sym same) ∙ holds; earlier = tt })
-      (λ out. after_one x y xs out (found_first xs y (sym (cond-false (p x) (Some x) (first_of p xs) out) ∙ is)))
+      (λ out. after_one x y xs out (found_first xs y (sym (cond-false (p x) (Some x) (find p xs) out) ∙ is)))
       (cases_Bool (p x))
 
   -- where nothing is found, nothing passes
-  pub found_none : (xs : List X) → first_of p xs ≡ None → NoneOf p xs
+  pub found_none : (xs : List X) → find p xs ≡ None → NoneOf p xs
   found_none [] is = tt
   found_none (x ∷ xs) is =
       ⊎_elim
-      (λ holds. let s : Some x ≡ None = sym (cond-true (p x) (Some x) (first_of p xs) holds) ∙ is in let z : ◌≡◌ {A = ℕ} 0 1 = cc in absurd (omega arith))
-      (λ out. (out, found_none xs (sym (cond-false (p x) (Some x) (first_of p xs) out) ∙ is)))
+      (λ holds. let s : Some x ≡ None = sym (cond-true (p x) (Some x) (find p xs) holds) ∙ is in absurd (cc))
+      (λ out. (out, found_none xs (sym (cond-false (p x) (Some x) (find p xs) out) ∙ is)))
       (cases_Bool (p x))
 
-module _ {X Y : Type 0} (f : X → Y) (p : Y → Bool) where
-  first_map : (xs : List X) → option_map f (first_of (λ x. p (f x)) xs) ≡ first_of p (map f xs)
-  first_map [] = refl
-  first_map (x ∷ xs) =
-      elim (p (f x)) as (λ b. option_map f (cond b (Some x) (first_of (λ y. p (f y)) xs)) ≡ cond b (Some (f x)) (first_of p (map f xs))) [ true ↦ refl | false ↦ first_map xs ]
+  -- some item passes just where one is found
+  pub any_found : (xs : List X) → list_any p xs ≡ is_some (find p xs)
+  any_found [] = refl
+  any_found (x ∷ xs) = elim (p x) as (λ b. (b || list_any p xs) ≡ is_some (cond b (Some x) (find p xs))) [ true ↦ refl | false ↦ any_found xs ]
 
-  -- the first item that passes by what it means is the first of what the items mean
-  pub found_map : (found : Option X) (items xs : List X) → found ≡ first_of (λ x. p (f x)) items → items ≡ xs → option_map f found ≡ first_of p (map f xs)
-  found_map found items xs is are = ap (option_map f) (is ∙ ap (first_of (λ x. p (f x))) are) ∙ first_map xs
+module _ {X Y : Type 0} (h : X → Option Y) where
+  module _ (d : X) where
+    -- as a search tells it by places
+    abbrev pub FirstGives : List X → Option Y → Type 0
+    FirstGives xs r =
+        MatchOption r ((k : ℕ) → k < length xs → h (get_or xs k d) ≡ None)
+        (λ y. (i : ℕ) × (i < length xs) × (h (get_or xs i d) ≡ Some y) × ((k : ℕ) → k < i → h (get_or xs k d) ≡ None))
+
+    given_nowhere : (xs : List X) → ((k : ℕ) → k < length xs → h (get_or xs k d) ≡ None) → None ≡ first_given h xs
+    given_nowhere [] none = refl
+    given_nowhere (x ∷ xs) none = rw (none 0 (omega arith)) (given_nowhere xs (λ k low. none (suc k) (omega arith)))
+
+    given_at : (xs : List X) (i : ℕ) (y : Y) → i < length xs → h (get_or xs i d) ≡ Some y → ((k : ℕ) → k < i → h (get_or xs k d) ≡ None) → Some y ≡ first_given h xs
+    given_at [] i y low is before = absurd (omega arith)
+    given_at (x ∷ xs) zero y low is before = rw is refl
+    given_at (x ∷ xs) (suc i) y low is before = rw (before 0 (omega arith)) (given_at xs i y (omega arith) is (λ k less. before (suc k) (omega arith)))
+
+    pub found_given : (xs : List X) (r : Option Y) → FirstGives xs r → r ≡ first_given h xs
+    found_given xs None told = given_nowhere xs told
+    found_given xs (Some y) told = given_at xs told.0 y told.1 told.2 told.3
+
+  -- an item that gives y, behind some that give nothing
+  pub record Given (xs : List X) (y : Y) : Type 0 where
+    pub before : List X
+    pub chosen : X
+    pub after : List X
+    pub order : xs ≡ before ++ chosen ∷ after
+    pub gives : h chosen ≡ Some y
+    pub earlier : AllByRecursion (λ x. h x ≡ None) before
+
+  -- what is given comes from such an item
+  pub given : (xs : List X) (y : Y) → first_given h xs ≡ Some y → Given xs y
+  given [] y is = absurd (cc)
+  given (x ∷ xs) y is =
+      ⊎_elim
+      (λ some. record { before = []; chosen = x; after = xs; order = refl; gives = some.1 ∙ sym (ap (λ o. option_or o (first_given h xs)) some.1) ∙ is; earlier = tt })
+      (λ none.
+      let g = given xs y (sym (ap (λ o. option_or o (first_given h xs)) none) ∙ is) in
+      record { before = x ∷ g.before; chosen = g.chosen; after = g.after; order = ap (λ l. x ∷ l) g.order; gives = g.gives; earlier = (none, g.earlier) })
+      (told (h x))
+
+  pub given_none : (xs : List X) → first_given h xs ≡ None → AllByRecursion (λ x. h x ≡ None) xs
+  given_none [] is = tt
+  given_none (x ∷ xs) is =
+      ⊎_elim
+      (λ some. let e : Some some.0 ≡ None = sym (ap (λ o. option_or o (first_given h xs)) some.1) ∙ is in absurd (cc))
+      (λ none. (none, given_none xs (sym (ap (λ o. option_or o (first_given h xs)) none) ∙ is)))
+      (told (h x))

@@ -5,3 +5,4 @@ pub mod Firsts
 pub mod FlatDrawn
 pub mod Marks
 pub mod Nets
+pub mod Climbs

@@ -1,23 +1,23 @@
 -- The marks after a transition, place by place.
-use Rattle.std.proofs.Common.{◌≡◌, ℕ, zero, suc, ◌+◌, ◌-◌, ◌<◌, ◌≤◌, false, ◌⊎◌, List, [], ◌∷◌, ◌++◌, length, take, is_some, Some, None, Option, unwrap_or, sym, refl, ap, ◌∙◌, inl, inr, ⊎_elim, arith}
+use Rattle.std.proofs.Common.{◌≡◌, ℕ, zero, suc, ◌+◌, ◌-◌, ◌<◌, ◌≤◌, ◌⊎◌, List, [], ◌∷◌, ◌++◌, length, take, Some, None, Option, unwrap_or, sym, refl, ap, ◌∙◌, inl, inr, ⊎_elim, arith}
 use Rattle.std.proofs.lemmas.List.{take_more_set, take_all, length_push}
 use Rattle.std.proofs.lemmas.Bool.{cases_eq}
 use Rattle.std.proofs.lemmas.Bool.Decides.{nat_tests}
 use Rattle.terms.proofs.Held.{numbered_push, numbered_last}
 use Rattle.terms.specs.Entries.{numbered, replaced}
-use Rattle.tables.specs.Drawing.{Firing}
+use Rattle.tables.specs.declared.net.Transition.{Transition}
 use Rattle.tables.specs.Limits.{From1To}
 use Rattle.objects.specs.Nets.{at_place, place_after, with_place, marks_after, fired, Changes, Blocked}
 
 -- the marks of one place after a transition
-abbrev pub after : List ℕ → Firing → ℕ → Option ℕ
+abbrev pub after : List ℕ → Transition → ℕ → Option ℕ
 after marks t place = place_after (at_place marks place) (at_place t.takes place) (at_place t.gives place)
 
 blocked_place : (o : Option (List ℕ)) → with_place o None ≡ None
 blocked_place None = refl
 blocked_place (Some ms) = refl
 
-module _ (marks : List ℕ) (t : Firing) where
+module _ (marks : List ℕ) (t : Transition) where
   -- one place that does not let the transition fire is enough
   blocked_by : (n place : ℕ) → 1 ≤ place → place ≤ n → after marks t place ≡ None → marks_after n marks t ≡ None
   blocked_by zero place low high none = absurd (omega arith)
@@ -55,22 +55,18 @@ changed before take give left is = grind (arith, nat_tests)
 not_changed : (before take give : ℕ) → place_after before take give ≡ None → (before < take) ⊎ (255 + take < before + give)
 not_changed before take give none = grind (arith, nat_tests)
 
-not_some : {X : Type 0} (o : Option X) → is_some o ≡ false → o ≡ None
-not_some None is = refl
-not_some (Some x) is = let z : ◌≡◌ {A = ℕ} 0 1 = cc in absurd (omega arith)
-
 -- what is there where all places up to one let the transition fire
 both_placed : (o : Option (List ℕ)) (p : Option ℕ) (ms : List ℕ) → with_place o p ≡ Some ms → (front : List ℕ) × (m : ℕ) × (o ≡ Some front) × (p ≡ Some m) × (front ++ m ∷ [] ≡ ms)
-both_placed None p ms is = let z : ◌≡◌ {A = ℕ} 0 1 = cc in absurd (omega arith)
-both_placed (Some front) None ms is = let z : ◌≡◌ {A = ℕ} 0 1 = cc in absurd (omega arith)
+both_placed None p ms is = absurd (cc)
+both_placed (Some front) None ms is = absurd (cc)
 both_placed (Some front) (Some m) ms is = (front, m, refl, refl, (cc))
 
 one_blocked : (o : Option (List ℕ)) (p : Option ℕ) → with_place o p ≡ None → (o ≡ None) ⊎ (p ≡ None)
 one_blocked None p is = inl refl
 one_blocked (Some front) None is = inr refl
-one_blocked (Some front) (Some m) is = let z : ◌≡◌ {A = ℕ} 0 1 = cc in absurd (omega arith)
+one_blocked (Some front) (Some m) is = absurd (cc)
 
-module _ (marks : List ℕ) (t : Firing) where
+module _ (marks : List ℕ) (t : Transition) where
   as_long : (n : ℕ) (ms : List ℕ) → marks_after n marks t ≡ Some ms → length ms ≡ n
   as_long zero ms is = let e : [] ≡ ms = cc in ap length (sym e)
   as_long (suc n) ms is =
@@ -95,17 +91,17 @@ module _ (marks : List ℕ) (t : Firing) where
       (cases_eq k n)
 
   some_blocked : (n : ℕ) → marks_after n marks t ≡ None → (k : ℕ) × (k < n) × (after marks t (suc k) ≡ None)
-  some_blocked zero none = let z : ◌≡◌ {A = ℕ} 0 1 = cc in absurd (omega arith)
+  some_blocked zero none = absurd (cc)
   some_blocked (suc n) none =
       ⊎_elim
       (λ before. let b = some_blocked n before in (b.0, omega arith, b.2))
       (λ here. (n, omega arith, here))
       (one_blocked (marks_after n marks t) (after marks t (suc n)) none)
 
-  pub blocked : is_some (fired marks t) ≡ false → Blocked marks t
+  pub blocked : fired marks t ≡ None → Blocked marks t
   unfolding fired
   blocked out =
-      let b = some_blocked 8 (not_some (marks_after 8 marks t) out) in
+      let b = some_blocked 8 out in
       record { place = suc b.0; within = (omega arith, omega arith); blocked = not_changed (at_place marks (suc b.0)) (at_place t.takes (suc b.0)) (at_place t.gives (suc b.0)) b.2 }
 
   pub changes : (ms : List ℕ) → fired marks t ≡ Some ms → (n : ℕ) → From1To 8 n → Changes (at_place marks n) (at_place t.takes n) (at_place t.gives n) (at_place ms n)

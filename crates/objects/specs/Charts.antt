@@ -1,10 +1,12 @@
 -- What a hierarchical object does.
-use Rattle.std.specs.Prelude.{ℕ, zero, suc, Bool, false, cond, ◌&&◌, ◌||◌, List, [], ◌∷◌, ◌++◌, reverse, Some, None, Option, ◌==◌}
+use Rattle.std.specs.Prelude.{ℕ, zero, suc, Bool, cond, ◌&&◌, List, [], ◌∷◌, ◌++◌, reverse, Some, None, Option, ◌==◌, find, flat_map}
+use Rattle.std.specs.List.{list_any, before_first}
+use Rattle.std.specs.Option.{unwrap_or, option_map_or, option_and_then}
 use Rattle.terms.specs.Entries.{numbered}
 use Rattle.terms.specs.declared.send.Send.{Send}
 use Rattle.objects.specs.Crews.{Response, Rule, passing}
-use Rattle.tables.specs.Drawing.{parent_of, lets, crossing_of}
-use Rattle.objects.specs.Finding.{first_of}
+use Rattle.tables.specs.Drawing.{ChartDrawing, parent_of, lets, crossing_of}
+use Rattle.objects.specs.Finding.{first_given}
 use Rattle.objects.specs.Sending.{sends_of}
 use Rattle.tables.specs.declared.chart.State.{State}
 use Rattle.tables.specs.declared.chart.Row.{Row}
@@ -26,8 +28,7 @@ chain ss s = climb ss 4 s
 
 -- the state is among the states of a chain
 abbrev pub on_chain : ℕ → List ℕ → Bool
-on_chain x [] = false
-on_chain x (y ∷ ys) = y == x || on_chain x ys
+on_chain x ys = list_any (λ y. y == x) ys
 
 -- the first word of an event, 0 if it has none
 abbrev pub first_word : List ℕ → ℕ
@@ -38,24 +39,13 @@ first_word (w ∷ ws) = w
 abbrev pub applies : ℕ → ℕ → ℕ → Row → Bool
 applies state signal word r = r.state == state && (r.signal == signal && lets r.guard word)
 
--- the first answer, or the second where there is none
-abbrev pub or_else : {X : Type 0} → Option X → Option X → Option X
-or_else None y = y
-or_else (Some x) y = Some x
-
 -- the row that decides: of the first state on the way up that has a row that applies, the first such row
 abbrev pub decides : List Row → List ℕ → ℕ → ℕ → Option Row
-decides rows [] signal word = None
-decides rows (s ∷ up) signal word = or_else (first_of (applies s signal word) rows) (decides rows up signal word)
+decides rows up signal word = first_given (λ s. find (applies s signal word) rows) up
 
--- 0, the top, where there is no state
-abbrev pub or_top : Option ℕ → ℕ
-or_top None = 0
-or_top (Some s) = s
-
--- the first state of one chain that is on the other too
+-- the first state of one chain that is on the other too, or 0, the top
 abbrev pub meeting : List ℕ → List ℕ → ℕ
-meeting one other = or_top (first_of (λ s. on_chain s other) one)
+meeting one other = unwrap_or (find (λ s. on_chain s other) one) 0
 
 -- the state below which a move from s to t leaves and enters; 0 is the top
 abbrev pub base_of : List State → ℕ → ℕ → ℕ
@@ -63,21 +53,23 @@ base_of ss s t = cond (s == t) (parent_of ss s) (meeting (chain ss s) (chain ss 
 
 -- the states of a chain below the base
 abbrev pub below : ℕ → List ℕ → List ℕ
-below base [] = []
-below base (x ∷ xs) = cond (x == base) [] (x ∷ below base xs)
+below base xs = before_first (λ x. x == base) xs
 
--- the initial target of a state, 0 if it has none
-abbrev pub initial_in : Option State → ℕ
-initial_in None = 0
-initial_in (Some s) = s.initial
+-- the initial target of a state, if it has one
+abbrev pub initial_in : Option State → Option ℕ
+initial_in state = option_and_then (λ s. s.initial) state
 
-abbrev pub initial_of : List State → ℕ → ℕ
+abbrev pub initial_of : List State → ℕ → Option ℕ
 initial_of ss s = initial_in (numbered ss s)
 
 -- where at most k initial targets lead from a state
 abbrev pub settle : List State → ℕ → ℕ → ℕ
 settle ss zero s = s
-settle ss (suc k) s = cond (initial_of ss s == 0) s (settle ss k (initial_of ss s))
+settle ss (suc k) s = option_map_or (settle ss k) (initial_of ss s) s
+
+-- where one initial target leads, if there is one
+abbrev pub led_on : List State → ℕ → ℕ
+led_on ss s = settle ss 1 s
 
 -- the state that a move to s reaches: a chain of four states has room for three initial targets
 unfoldable pub reached : List State → ℕ → ℕ
@@ -91,18 +83,16 @@ left ss current s t = below (base_of ss s t) (chain ss current)
 abbrev pub entered : List State → ℕ → ℕ → List ℕ
 entered ss s t = reverse (below (base_of ss s t) (chain ss (reached ss t)))
 
--- the number of a state's send on a crossing, 0 where there is no such state
-abbrev pub crossing_in : Crossing → Option State → ℕ
-crossing_in c None = 0
-crossing_in c (Some s) = crossing_of c s
+-- the number of a state's send on a crossing: none where there is no such state
+abbrev pub crossing_in : Crossing → Option State → Option ℕ
+crossing_in c state = option_and_then (crossing_of c) state
 
 -- the sends of several states that are all left or all entered, in order
 abbrev pub crossings : List State → List Send → Crossing → List ℕ → List Send
-crossings ss sends c [] = []
-crossings ss sends c (x ∷ xs) = sends_of sends (crossing_in c (numbered ss x)) ++ crossings ss sends c xs
+crossings ss sends c xs = flat_map (λ x. sends_of sends (crossing_in c (numbered ss x))) xs
 
 -- the row's send, then those of the exits, then those of the entries
-abbrev pub move_sends : List State → List Send → ℕ → List ℕ → List ℕ → List Send
+abbrev pub move_sends : List State → List Send → Option ℕ → List ℕ → List ℕ → List Send
 move_sends ss sends send exits entries = (sends_of sends send ++ crossings ss sends Exit exits) ++ crossings ss sends Entry entries
 
 -- what a row at s does with the current state
@@ -121,9 +111,9 @@ abbrev pub current_in : List ℕ → ℕ
 current_in [] = 0
 current_in (s ∷ ss) = s
 
-abbrev pub chart_rule : List State → List Row → List Send → Rule
-chart_rule ss rows sends before e =
-    by_row ss sends (decides rows (chain ss (current_in before)) e.signal (first_word e.words)) before (current_in before)
+abbrev pub chart_rule : ChartDrawing → Rule
+chart_rule d before e =
+    by_row d.states d.sends (decides d.rows (chain d.states (current_in before)) e.signal (first_word e.words)) before (current_in before)
 
 -- state 1 and its initial targets; with no states there is none to be in
 abbrev pub start_in : List State → ℕ

@@ -1,10 +1,12 @@
--- The first of several that passes a test.
-use Rattle.std.specs.Prelude.{◌≡◌, Bool, true, false, cond, List, [], ◌∷◌, ◌++◌, Some, None, Option}
+-- The first of several that gives something, and the first that passes a test.
+use Rattle.std.specs.Prelude.{◌≡◌, Bool, true, false, List, [], ◌∷◌, ◌++◌, None, Option}
+use Rattle.std.specs.Option.{option_or}
 use Rattle.std.specs.List.{AllByRecursion}
 
-abbrev pub first_of : {X : Type 0} → (X → Bool) → List X → Option X
-first_of p [] = None
-first_of p (x ∷ xs) = cond (p x) (Some x) (first_of p xs)
+-- what f gives for the first item for which it gives something
+abbrev pub first_given : {X Y : Type 0} → (X → Option Y) → List X → Option Y
+first_given f [] = None
+first_given f (x ∷ xs) = option_or (f x) (first_given f xs)
 
 -- none of them passes
 abbrev pub NoneOf : {X : Type 0} → (X → Bool) → List X → Type 0

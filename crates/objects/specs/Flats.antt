@@ -1,5 +1,5 @@
 -- What a flat object does: the first row of its state and the event's signal decides.
-use Rattle.std.specs.Prelude.{◌≡◌, ℕ, Bool, cond, ◌&&◌, ◌⊎◌, List, [], ◌∷◌, Some, None, Option, ◌==◌}
+use Rattle.std.specs.Prelude.{◌≡◌, ℕ, Bool, ◌&&◌, ◌⊎◌, List, [], ◌∷◌, Some, None, Option, ◌==◌, find}
 use Rattle.terms.specs.Events.{Content}
 use Rattle.terms.specs.declared.send.Send.{Send}
 use Rattle.tables.specs.Drawing.{FlatDrawing}
@@ -22,8 +22,7 @@ row_of_state state signal r = r.state == state && r.signal == signal
 
 -- the first row of a state and a signal
 abbrev pub first_row : List FlatRow → ℕ → ℕ → Option FlatRow
-first_row [] state signal = None
-first_row (r ∷ rs) state signal = cond (row_of_state state signal r) (Some r) (first_row rs state signal)
+first_row rows state signal = find (row_of_state state signal) rows
 
 abbrev pub acts : List Send → FlatAction → List ℕ → Response
 acts sends (Move next send) s = record { verdict = Handled; next = next ∷ []; sends = sends_of sends send }
@@ -33,8 +32,8 @@ abbrev pub by_row : List Send → Option FlatRow → List ℕ → Response
 by_row sends None s = passing Ignored s
 by_row sends (Some r) s = acts sends r.action s
 
-abbrev pub flat_rule : List FlatRow → List Send → Rule
-flat_rule rows sends s e = by_row sends (first_row rows (state_in s) e.signal) s
+abbrev pub flat_rule : FlatDrawing → Rule
+flat_rule d s e = by_row d.sends (first_row d.rows (state_in s) e.signal) s
 
 -- the first row of the state and the signal decides; with none the event is ignored
 abbrev pub FlatResponds : FlatDrawing → ℕ → Content → Response → Type 0

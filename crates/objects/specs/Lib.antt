@@ -2,8 +2,9 @@ pub mod Charts
 pub mod Crews
 pub mod Finding
 pub mod Flats
+pub mod Letters
 pub mod Moves
 pub mod Nets
 pub mod Sending
-pub mod Worked
 pub mod Walks
+pub mod Worked

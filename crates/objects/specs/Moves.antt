@@ -1,5 +1,5 @@
 -- What the drawing of a chart means: which row decides, which states a move leaves and enters, and in which order.
-use Rattle.std.specs.Prelude.{◌≡◌, ℕ, ◌≤◌, true, false, ◌⊎◌, List, [], ◌∷◌, ◌++◌, reverse, length, ◌≢◌}
+use Rattle.std.specs.Prelude.{◌≡◌, ℕ, ◌≤◌, true, false, ◌⊎◌, List, [], ◌∷◌, ◌++◌, reverse, length, Some, None, ◌≢◌}
 use Rattle.std.specs.List.{AllByRecursion}
 use Rattle.terms.specs.Events.{Content}
 use Rattle.terms.specs.declared.send.Send.{Send}
@@ -33,8 +33,8 @@ pub record Base (ss : List State) (s t base : ℕ) : Type 0 where
 
 -- Initial targets lead from a state to one that has none.
 pub data Settles (ss : List State) : ℕ → ℕ → Type 0 where
-  rests : (s : ℕ) → initial_of ss s ≡ 0 → Settles ss s s
-  follows : (s r : ℕ) → (initial_of ss s ≢ 0) → Settles ss (initial_of ss s) r → Settles ss s r
+  rests : (s : ℕ) → initial_of ss s ≡ None → Settles ss s s
+  follows : (s t r : ℕ) → initial_of ss s ≡ Some t → Settles ss t r → Settles ss s r
 
 -- A move from s to t. The active states are the chain of the current state. Those left are its innermost ones, each once,
 -- in order, up to the base, whose chain stays active. Those entered are, outermost first, all that is then active below
@@ -47,7 +47,7 @@ pub record Moved (ss : List State) (current s t : ℕ) (exits entries : List ℕ
   pub enters : chain ss reached ≡ reverse entries ++ chain ss base
   pub through : On t (chain ss reached)
   pub settles : Settles ss t reached
-  pub final : initial_of ss reached ≡ 0
+  pub final : initial_of ss reached ≡ None
   pub declared : From1To (length ss) reached
 
 -- no row of a state applies

@@ -1,14 +1,15 @@
 -- What a Petri object does: the first transition of the event's signal that is enabled fires.
-use Rattle.std.specs.Prelude.{◌≡◌, ℕ, zero, suc, ◌+◌, ◌-◌, ◌<◌, ◌≤◌, Bool, cond, ◌&&◌, ◌⊎◌, List, [], ◌∷◌, ◌++◌, length, is_some, Some, None, Option, ◌==◌, ◌≢◌, nat_le}
-use Rattle.std.specs.Option.{unwrap_or}
-use Rattle.std.specs.List.{AllByRecursion}
+use Rattle.std.specs.Prelude.{◌≡◌, ℕ, zero, suc, ◌+◌, ◌-◌, ◌<◌, ◌≤◌, Bool, true, false, cond, ◌&&◌, ◌⊎◌, List, [], ◌∷◌, ◌++◌, length, Some, None, Option, ◌==◌, ◌≢◌, nat_le}
+use Rattle.std.specs.Option.{unwrap_or, option_map}
+use Rattle.std.specs.List.{AllByRecursion, list_any}
 use Rattle.terms.specs.Entries.{numbered}
 use Rattle.terms.specs.Events.{Content}
 use Rattle.terms.specs.declared.send.Send.{Send}
 use Rattle.terms.specs.declared.send.Send.TheVariants.{Recall}
 use Rattle.objects.specs.Crews.{Response, Rule, passing}
-use Rattle.tables.specs.Drawing.{NetDrawing, Firing}
-use Rattle.objects.specs.Finding.{first_of}
+use Rattle.tables.specs.Drawing.{NetDrawing}
+use Rattle.tables.specs.declared.net.Transition.{Transition}
+use Rattle.objects.specs.Finding.{first_given}
 use Rattle.tables.specs.Limits.{From1To}
 use Rattle.objects.specs.Sending.{sends_of}
 use Rattle.objects.specs.declared.reaction.Verdict.{Verdict}
@@ -28,32 +29,33 @@ with_place (Some ms) None = None
 with_place (Some ms) (Some m) = Some (ms ++ m ∷ [])
 
 -- the marks of the first n places after a transition, if each of them lets it fire
-abbrev pub marks_after : ℕ → List ℕ → Firing → Option (List ℕ)
+abbrev pub marks_after : ℕ → List ℕ → Transition → Option (List ℕ)
 marks_after zero marks t = Some []
 marks_after (suc n) marks t = with_place (marks_after n marks t) (place_after (at_place marks (suc n)) (at_place t.takes (suc n)) (at_place t.gives (suc n)))
 
 -- the marks of the eight places after a transition, if it is enabled
-unfoldable pub fired : List ℕ → Firing → Option (List ℕ)
+unfoldable pub fired : List ℕ → Transition → Option (List ℕ)
 fired marks t = marks_after 8 marks t
 
-abbrev pub of_signal : ℕ → Firing → Bool
+abbrev pub of_signal : ℕ → Transition → Bool
 of_signal signal t = t.signal == signal
 
-abbrev pub ready : ℕ → List ℕ → Firing → Bool
-ready signal marks t = of_signal signal t && is_some (fired marks t)
+-- a transition and the marks after it fired, if it has the signal and is enabled
+abbrev pub fires : ℕ → List ℕ → Transition → Option (Transition × List ℕ)
+fires signal marks t = cond (of_signal signal t) (option_map (λ ms. (t, ms)) (fired marks t)) None
 
 -- the verdict where no transition is enabled, by whether there is one of the signal
-abbrev pub unfired : Option Firing → Verdict
-unfired None = Ignored
-unfired (Some t) = Deferred
+abbrev pub unfired : Bool → Verdict
+unfired false = Ignored
+unfired true = Deferred
 
--- by the first transition of the signal that is enabled, and by the first of the signal
-abbrev pub by_transition : List Send → Option Firing → Option Firing → List ℕ → Response
+-- by the first transition of the signal that is enabled, with the marks after it, and by whether there is one of the signal
+abbrev pub by_transition : List Send → Option (Transition × List ℕ) → Bool → List ℕ → Response
 by_transition sends None some s = passing (unfired some) s
-by_transition sends (Some t) some s = record { verdict = Handled; next = unwrap_or (fired s t) s; sends = sends_of sends t.send ++ Recall ∷ [] }
+by_transition sends (Some (t, ms)) some s = record { verdict = Handled; next = ms; sends = sends_of sends t.send ++ Recall ∷ [] }
 
-abbrev pub net_rule : List Firing → List Send → Rule
-net_rule ts sends s e = by_transition sends (first_of (ready e.signal s) ts) (first_of (of_signal e.signal) ts) s
+abbrev pub net_rule : NetDrawing → Rule
+net_rule d s e = by_transition d.sends (first_given (fires e.signal s) d.transitions) (list_any (of_signal e.signal) d.transitions) s
 
 -- a place that a transition changes: it has what is taken, the give comes for the take, and it has at most 255 afterwards
 pub record Changes (before take give after : ℕ) : Type 0 where
@@ -62,7 +64,7 @@ pub record Changes (before take give after : ℕ) : Type 0 where
   pub most : after ≤ 255
 
 -- some place has less than the transition takes, or would have more than 255
-pub record Blocked (marks : List ℕ) (t : Firing) : Type 0 where
+pub record Blocked (marks : List ℕ) (t : Transition) : Type 0 where
   pub place : ℕ
   pub within : From1To 8 place
   pub blocked : (at_place marks place < at_place t.takes place) ⊎ (255 + at_place t.takes place < at_place marks place + at_place t.gives place)
@@ -74,30 +76,30 @@ pub record Still (v : Verdict) (s : List ℕ) (r : Response) : Type 0 where
   pub sends : r.sends ≡ []
 
 -- each of these that has the signal is blocked
-abbrev pub AllBlocked : ℕ → List ℕ → List Firing → Type 0
+abbrev pub AllBlocked : ℕ → List ℕ → List Transition → Type 0
 AllBlocked signal marks ts = AllByRecursion (λ t. t.signal ≡ signal → Blocked marks t) ts
 
 -- no transition has the signal
-pub record Ignores (ts : List Firing) (s : List ℕ) (signal : ℕ) (r : Response) : Type 0 where
+pub record Ignores (ts : List Transition) (s : List ℕ) (signal : ℕ) (r : Response) : Type 0 where
   pub none : AllByRecursion (λ t. t.signal ≢ signal) ts
   pub still : Still Ignored s r
 
 -- a transition of the signal, behind some and before others
-pub record Stands (ts : List Firing) (signal : ℕ) : Type 0 where
-  pub before : List Firing
-  pub chosen : Firing
-  pub after : List Firing
+pub record Stands (ts : List Transition) (signal : ℕ) : Type 0 where
+  pub before : List Transition
+  pub chosen : Transition
+  pub after : List Transition
   pub order : ts ≡ before ++ chosen ∷ after
   pub named : chosen.signal ≡ signal
 
 -- some transition has the signal, and each that has it is blocked
-pub record Defers (ts : List Firing) (s : List ℕ) (signal : ℕ) (r : Response) : Type 0 where
+pub record Defers (ts : List Transition) (s : List ℕ) (signal : ℕ) (r : Response) : Type 0 where
   pub some : Stands ts signal
   pub blocked : AllBlocked signal s ts
   pub still : Still Deferred s r
 
 -- a transition of the signal fires, and those of the signal before it are blocked
-pub record Fires (ts : List Firing) (sends : List Send) (s : List ℕ) (signal : ℕ) (r : Response) : Type 0 where
+pub record Fires (ts : List Transition) (sends : List Send) (s : List ℕ) (signal : ℕ) (r : Response) : Type 0 where
   pub fires : Stands ts signal
   pub earlier : AllBlocked signal s fires.before
   pub verdict : r.verdict ≡ Handled
@@ -105,7 +107,7 @@ pub record Fires (ts : List Firing) (sends : List Send) (s : List ℕ) (signal :
   pub changes : (n : ℕ) → From1To 8 n → Changes (at_place s n) (at_place fires.chosen.takes n) (at_place fires.chosen.gives n) (at_place r.next n)
   pub sent : r.sends ≡ sends_of sends fires.chosen.send ++ Recall ∷ []
 
-abbrev pub NetMoves : List Firing → List Send → List ℕ → ℕ → Response → Type 0
+abbrev pub NetMoves : List Transition → List Send → List ℕ → ℕ → Response → Type 0
 NetMoves ts sends s signal r = Ignores ts s signal r ⊎ (Defers ts s signal r ⊎ Fires ts sends s signal r)
 
 -- whatever the marks and the event, a rule does what the net of a drawing does

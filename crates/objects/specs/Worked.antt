@@ -1,17 +1,17 @@
 -- Worked cases of charts, guards and policies.
-use Rattle.std.specs.Prelude.{◌≡◌, ℕ, true, false, List, [], ◌∷◌}
+use Rattle.std.specs.Prelude.{◌≡◌, ℕ, true, false, List, [], ◌∷◌, Some, None, Option}
 use Rattle.objects.specs.Charts.{left, entered}
 use Rattle.tables.specs.Drawing.{lets}
 use Rattle.policies.specs.Picks.{highest, met, turned}
 use Rattle.tables.specs.declared.chart.Guard.TheVariants.{Under}
 use Rattle.tables.specs.declared.chart.State.{State}
 
-abbrev pub inside : ℕ → ℕ → State
-inside parent initial = record { parent = parent; entry = 0; exit = 0; initial = initial }
+abbrev pub inside : ℕ → Option ℕ → State
+inside parent initial = record { parent = parent; entry = None; exit = None; initial = initial }
 
 -- 1 (top, initial 2), 2 in 1, 3 in 1 (initial 4), 4 in 3, 5 (top)
 abbrev pub five_states : List State
-five_states = inside 0 2 ∷ inside 1 0 ∷ inside 1 4 ∷ inside 3 0 ∷ inside 0 0 ∷ []
+five_states = inside 0 (Some 2) ∷ inside 1 None ∷ inside 1 (Some 4) ∷ inside 3 None ∷ inside 0 None ∷ []
 
 -- a row at s to t from the current state: the exits and the entries
 abbrev pub Crosses : List State → ℕ → ℕ → ℕ → List ℕ → List ℕ → Type 0

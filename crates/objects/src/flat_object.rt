@@ -1,40 +1,35 @@
-// A flat object: alone a crew of one.
+// A flat object: the first row of its state and a signal decides.
 ghost use Rattle.std.specs.Prelude.{◌≡◌, [], ◌∷◌};
 ghost use Rattle.terms.specs.Entries.{entries};
 ghost use Rattle.terms.specs.Events.{content};
-ghost use Rattle.tables.specs.Drawing.{drawing, flat_in};
-ghost use Rattle.objects.specs.Crews.{alone, Reacts};
-ghost use Rattle.objects.specs.Flats.{row_of_state, first_row, flat_rule, FlatResponds, FlatAsDrawn};
+ghost use Rattle.tables.specs.Drawing.{flat_in, flat_drawing};
+ghost use Rattle.tables.specs.Tables.{drawing};
+ghost use Rattle.tables.specs.declared.flat.Flat.{Flat};
+ghost use Rattle.objects.specs.Crews.{Reacts};
+ghost use Rattle.objects.specs.Flats.{first_row, flat_rule, FlatResponds, FlatAsDrawn};
 ghost use Rattle.std.proofs.Common.{rules};
 
-use crate::crew::Crew;
-use crate::finding::{Test, first};
+use crate::object::Object;
 use crate::reaction::{Reaction, Verdict};
-use tables::flat::{FlatAction, FlatRow};
+use tables::flat::{Flat, FlatAction, FlatRow};
 use tables::tables::Tables;
 use terms::event::Event;
-use terms::send::Send;
-use terms::table::Table;
 
 #[derive(Clone, Copy)]
 pub struct FlatObject {
-    rows: Table<FlatRow, 64>,
-    sends: Table<Send, 32>,
+    flat: Flat,
     state: u8,
 }
 
 impl FlatObject {
     // The object that the flat rows of a cell describe, in state 1.
     pub fn new(tables: &Tables) -> FlatObject
-        ensures rows { entries result.rows ≡ (drawing tables.now).flat_rows }
-        ensures sends { entries result.sends ≡ (drawing tables.now).sends }
+        ensures flat { flat_drawing result.flat ≡ flat_in (drawing tables.now) }
         ensures start { result.state ≡ 1 }
-        ensures drawn { FlatAsDrawn (flat_in (drawing tables.now)) (flat_rule (entries result.rows) (entries result.sends)) }
+        ensures drawn { FlatAsDrawn (flat_in (drawing tables.now)) (flat_rule (flat_drawing result.flat)) }
     {
-        let flat = tables.flat();
         FlatObject {
-            rows: flat.rows,
-            sends: flat.sends,
+            flat: tables.flat(),
             state: 1,
         }
     }
@@ -47,87 +42,47 @@ impl FlatObject {
 
     // What the object does with an event, as its rows say.
     pub fn react(&mut self, event: &Event) -> Reaction
-        ensures rows { self.new.rows ≡ self.old.rows }
-        ensures table { self.new.sends ≡ self.old.sends }
-        ensures answer { Reacts 1 1 (flat_rule (entries self.old.rows) (entries self.old.sends)) (self.old.state ∷ []) (content event.now) result.verdict (entries result.sends) (self.new.state ∷ []) }
-        ensures drawn { FlatResponds (record { rows = entries self.old.rows; sends = entries self.old.sends }) self.old.state (content event.now) (record { verdict = result.verdict; next = self.new.state ∷ []; sends = entries result.sends }) }
+        ensures flat { self.new.flat ≡ self.old.flat }
+        ensures answer { Reacts 1 1 (flat_rule (flat_drawing self.old.flat)) (self.old.state ∷ []) (content event.now) result.verdict (entries result.sends) (self.new.state ∷ []) }
+        ensures drawn { FlatResponds (flat_drawing self.old.flat) self.old.state (content event.now) (record { verdict = result.verdict; next = self.new.state ∷ []; sends = entries result.sends }) }
     {
         self.respond(event)
     }
 
-    fn respond(&mut self, event: &Event) -> Reaction
-        ensures rows { self.new.rows ≡ self.old.rows }
-        ensures table { self.new.sends ≡ self.old.sends }
-        ensures answer { Reacts 1 1 (flat_rule (entries self.old.rows) (entries self.old.sends)) (self.old.state ∷ []) (content event.now) result.verdict (entries result.sends) (self.new.state ∷ []) }
-    {
-        let Some(row) = self.row(event.signal()) else {
-            return Reaction::silent(Verdict::Ignored);
-        };
-        match row.action {
-            FlatAction::Move { next, send } => {
-                self.state = next;
-                Reaction::handled(&self.sends, send)
-            }
-            FlatAction::Defer => Reaction::silent(Verdict::Deferred),
-        }
-    }
-
     // The first row of the object's state and a signal.
     fn row(&self, signal: u8) -> Option<FlatRow>
-        ensures { result ≡ first_row (entries self.now.rows) self.now.state signal }
+        ensures { result ≡ first_row (entries self.now.flat.rows) self.now.state signal }
     {
-        let decides = RowsOf {
-            state: self.state,
-            signal,
-        };
-        first(self.rows.as_slice(), &decides)
+        self.flat
+            .rows
+            .as_slice()
+            .iter()
+            .copied()
+            .find(|row| row.state == self.state && row.signal == signal)
     }
 }
 
-fn is_row_of(state: u8, signal: u8, row: FlatRow) -> bool
-    ensures { result ≡ row_of_state state signal row }
-{
-    row.state == state && row.signal == signal
-}
+impl Object for FlatObject {
+    ghost Drawing = { Flat };
 
-// The rows of a state and a signal.
-#[derive(Drop)]
-struct RowsOf {
-    state: u8,
-    signal: u8,
-}
+    ghost drawing = { λ o. o.flat };
 
-impl Test for RowsOf {
-    type Item = FlatRow;
+    ghost state = { λ o. o.state ∷ [] };
 
-    ghost fits = { λ t row. row_of_state t.state t.signal row };
-
-    fn passes(&self, row: FlatRow) -> bool {
-        is_row_of(self.state, self.signal, row)
-    }
-}
-
-impl Crew for FlatObject {
-    ghost count = { λ _. 1 };
-
-    ghost state = { λ c o. alone (c.state ∷ []) o };
-
-    ghost rule = { λ c _. flat_rule (entries c.rows) (entries c.sends) };
-
-    ghost counted = { Prim.search rules };
+    ghost rule = { λ d. flat_rule (flat_drawing d) };
 
     ghost quiet = { Prim.search rules };
 
     ghost few = { Prim.search rules };
 
-    fn len(&self) -> u8 {
-        1
-    }
-
-    fn handle(&mut self, object: u8, event: &Event) -> Reaction {
-        if object != 1 {
-            return Reaction::silent(Verdict::Ignored);
+    fn respond(&mut self, event: &Event) -> Reaction {
+        match self.row(event.signal()).map(|row| row.action) {
+            Some(FlatAction::Move { next, send }) => {
+                self.state = next;
+                Reaction::handled(&self.flat.sends, send)
+            }
+            Some(FlatAction::Defer) => Reaction::silent(Verdict::Deferred),
+            None => Reaction::silent(Verdict::Ignored),
         }
-        self.react(event)
     }
 }

@@ -37,17 +37,14 @@ impl<O: Crew, C: Crew> Crew for Joined<O, C> {
         ] };
 
     fn len(&self) -> u8 {
-        let others = self.others.len();
-        if others < 8 { others + 1 } else { 8 }
+        self.others.len().saturating_add(1).min(8)
     }
 
     fn handle(&mut self, object: u8, event: &Event) -> Reaction {
-        if object == 1 {
-            return self.front.handle(1, event);
+        match object {
+            1 => self.front.handle(1, event),
+            2..=8 => self.others.handle(object - 1, event),
+            _ => Reaction::silent(Verdict::Ignored),
         }
-        if object == 0 || object > 8 {
-            return Reaction::silent(Verdict::Ignored);
-        }
-        self.others.handle(object - 1, event)
     }
 }

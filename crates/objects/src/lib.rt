@@ -3,11 +3,11 @@
 
 pub mod chart_object;
 pub mod crew;
-mod finding;
 mod firing;
 pub mod flat_object;
 pub mod joined;
 pub mod net_object;
+pub mod object;
 pub mod reaction;
 mod ways;
 pub mod worked;

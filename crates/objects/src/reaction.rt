@@ -1,18 +1,33 @@
 // What an object answers to an event.
-ghost use Rattle.std.specs.Prelude.{◌≡◌, ◌<◌, [], ◌++◌, length};
+ghost use Rattle.std.specs.Prelude.{◌≡◌, ◌<◌, [], ◌∷◌, ◌++◌, length, Some};
 ghost use Rattle.std.specs.Option.{option_to_list};
 ghost use Rattle.terms.specs.Entries.{entries};
+ghost use Rattle.objects.specs.Letters.{letter_of};
 ghost use Rattle.objects.specs.Sending.{sends_of};
 ghost use Rattle.objects.specs.declared.reaction.Verdict.TheVariants as verdict;
 
+use std::fmt;
 use terms::send::Send;
 use terms::table::Table;
 
-#[derive(Clone, Copy)]
+#[derive(Clone, Copy, Debug, PartialEq, Eq)]
 pub enum Verdict {
     Handled,
     Deferred,
     Ignored,
+}
+
+// As a listing shows it: H, D or I.
+impl fmt::Display for Verdict {
+    ghost output = { λ v. Some (letter_of v ∷ []) };
+
+    fn fmt<W: fmt::Write>(&self, f: &mut fmt::Formatter<W>) -> fmt::Result {
+        f.write_str(match self {
+            Verdict::Handled => "H",
+            Verdict::Deferred => "D",
+            Verdict::Ignored => "I",
+        })
+    }
 }
 
 // A verdict, and what is to be sent, in order.
@@ -35,14 +50,12 @@ impl Reaction {
     }
 
     // An event that is handled, with the send that has a number, if there is one.
-    pub fn handled(sends: &Table<Send, 32>, number: u8) -> Reaction
+    pub fn handled(sends: &Table<Send, 32>, number: Option<u8>) -> Reaction
         ensures verdict { result.verdict ≡ verdict.Handled }
         ensures sends { entries result.sends ≡ sends_of (entries sends.now) number }
     {
         let mut reaction = Reaction::silent(Verdict::Handled);
-        if let Some(send) = sends.get(number as usize) {
-            let _ = reaction.sends.push(send);
-        }
+        reaction.add(number.and_then(|number| sends.get(number as usize)));
         reaction
     }
 

@@ -1,6 +1,7 @@
 // A small chart, and what follows from the rules for it.
 ghost use Rattle.std.specs.Prelude.{◌≡◌};
-ghost use Rattle.tables.specs.Drawing.{drawing, undrawn, with_states};
+ghost use Rattle.tables.specs.Drawing.{undrawn, with_states};
+ghost use Rattle.tables.specs.Tables.{drawing};
 ghost use Rattle.objects.specs.Worked.{five_states, WorkedCases};
 
 use tables::tables::Tables;

@@ -3,7 +3,7 @@ use Rattle.std.specs.Prelude.{◌≡◌, ℕ, zero, suc, ◌+◌, ◌<◌, Bool,
 use Rattle.std.proofs.Common.{sym, subst, ◌∙◌, ⊎_elim, add-zero, zero-add, add-suc, suc-add, arith}
 use Rattle.std.proofs.lemmas.Bool.{and_parts, or_cases, eqb-true}
 use Rattle.terms.specs.Sets.{member}
-use Rattle.policies.specs.Picks.{highest, every, is_highest}
+use Rattle.policies.specs.Picks.{highest, every}
 
 from : (f : ℕ → ℕ → Bool) (xs : List ℕ) (i : ℕ) → every f i xs ≡ true → (k : ℕ) → k < length xs → f (i + k) (slice_index xs k) ≡ true
 from f [] i t k h = absurd (omega arith)
@@ -35,8 +35,3 @@ pub member-highest : (s : ℕ) → s < 256 → (s ≢ 0) → member (highest s) 
 unfolding right
 member-highest s under some =
     ⊎_elim (λ none. absurd (some (eqb-true s 0 none))) (λ is. is) (or_cases (s == 0) (member (highest s) s) (at right sets all_right s (subst (λ (n : ℕ). s < n) (sym as_many) under)))
-
--- the rule of a table at one of its entries
-pub entry_highest : (table : List ℕ) → length table ≡ 256 → every is_highest 0 table ≡ true → (s : ℕ) → s < 256 → slice_index table s ≡ highest s
-unfolding highest
-entry_highest table long rule s under = eqb-true (slice_index table s) (highest s) (at is_highest table rule s (subst (λ (n : ℕ). s < n) (sym long) under))

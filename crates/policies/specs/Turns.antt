@@ -1,11 +1,11 @@
 -- Going round from any turn meets every object, so that a set that is not empty has its member met.
-use Rattle.std.specs.Prelude.{◌≡◌, ℕ, zero, suc, ◌+◌, ◌-◌, ◌/◌, ◌%◌, ◌^◌, ◌<◌, ◌≤◌, Bool, true, false, ◌&&◌, ◌||◌, List, [], ◌∷◌, ◌==◌, ◌≢◌, nat_eq, nat_lt, refl}
+use Rattle.std.specs.Prelude.{◌≡◌, ℕ, zero, suc, ◌/◌, ◌%◌, ◌^◌, ◌<◌, ◌≤◌, Bool, true, false, ◌&&◌, ◌||◌, List, [], ◌∷◌, ◌==◌, ◌≢◌, nat_eq, nat_lt, refl}
 use Rattle.std.proofs.Common.{sym, ap, subst, ◌∙◌, ⊎_elim, arith}
 use Rattle.std.proofs.Math.Nat.{zero-div}
 use Rattle.std.proofs.lemmas.Bool.{and_parts, and_right, or_cases, eqb-true, cases_eq, cases_Bool, cond-true, cond-false}
 use Rattle.terms.specs.Ranges.{between}
 use Rattle.terms.specs.Sets.{member}
-use Rattle.terms.proofs.Ranges.{between_true, between_bounds}
+use Rattle.terms.proofs.Ranges.{between_bounds}
 use Rattle.policies.specs.Picks.{every, onward, first_met, turn_in, met}
 use Rattle.policies.specs.Highest.{at, sets, as_many}
 
@@ -53,18 +53,3 @@ met_none (suc k) o = cond-false (member o 0) o (first_met k (onward o) 0) (membe
 pub met_empty : (m : List ℕ) → met m 0 ≡ 0
 unfolding met
 met_empty m = met_none 8 (turn_in m)
-
--- a turn from 1 to 8 is where the first of eight is met
-pub met_start : (t s : ℕ) → 1 ≤ t → t ≤ 8 → met (t ∷ []) s ≡ first_met (8 - 0) t s
-unfolding met
-met_start t s low high = ap (λ (u : ℕ). first_met 8 u s) (cond-true (between 1 t 8) t 1 (between_true 1 t 8 low high))
-
--- one object more was met, and is no member
-pub met_more : (i o s : ℕ) → i < 8 → member o s ≡ false → first_met (8 - i) o s ≡ first_met (8 - (i + 1)) (onward o) s
-met_more i o s under out = let e : 8 - i ≡ suc (8 - (i + 1)) = omega arith in rw e (cond-false (member o s) o (first_met (8 - (i + 1)) (onward o) s) out)
-
-pub met_here : (i o s : ℕ) → i < 8 → member o s ≡ true → first_met (8 - i) o s ≡ o
-met_here i o s under is = let e : 8 - i ≡ suc (8 - (i + 1)) = omega arith in rw e (cond-true (member o s) o (first_met (8 - (i + 1)) (onward o) s) is)
-
-pub met_all : (i o s : ℕ) → 8 ≤ i → first_met (8 - i) o s ≡ 0
-met_all i o s done = let e : 8 - i ≡ 0 = omega arith in rw e refl

@@ -1,13 +1,12 @@
 // The strict policy picks the highest member.
 ghost use Rattle.std.specs.Prelude.{◌≡◌, true, [], length, refl};
-ghost use Rattle.terms.specs.Sets.{bits_of};
 ghost use Rattle.policies.specs.Picks.{highest, every, is_highest};
 ghost use Rattle.policies.specs.Highest.{member-highest};
 
 use crate::policy::Policy;
 use terms::object_set::ObjectSet;
 
-// The highest member of each set; 0 for the empty set.
+// The highest member of each set, and 0 for the empty set: the table that the rules ask for.
 const HIGHEST: [u8; 256] = [
     0, 1, 2, 2, 3, 3, 3, 3, 4, 4, 4, 4, 4, 4, 4, 4, 5, 5, 5, 5, 5, 5, 5, 5, 5, 5, 5, 5, 5, 5, 5, 5,
     6, 6, 6, 6, 6, 6, 6, 6, 6, 6, 6, 6, 6, 6, 6, 6, 6, 6, 6, 6, 6, 6, 6, 6, 6, 6, 6, 6, 6, 6, 6, 6,
@@ -19,7 +18,7 @@ const HIGHEST: [u8; 256] = [
     8, 8, 8, 8, 8, 8, 8, 8, 8, 8, 8, 8, 8, 8, 8, 8, 8, 8, 8, 8, 8, 8, 8, 8, 8, 8, 8, 8, 8, 8, 8, 8,
 ];
 
-#[derive(Drop)]
+#[derive(Clone, Copy, Debug, PartialEq, Eq)]
 pub struct Strict;
 
 impl Policy for Strict {
@@ -47,7 +46,7 @@ fn table() -> &'static [u8]
 }
 
 fn highest_of(set: ObjectSet) -> u8
-    ensures { result ≡ highest (bits_of set) }
+    ensures { result ≡ highest set }
 {
-    table()[set.bits() as usize]
+    table()[usize::from(set.bits())]
 }

@@ -1,8 +1,9 @@
--- The lines of a file are what stands between its line feeds.
-use Rattle.std.proofs.Common.{◌≡◌, ℕ, eqb, List, [], ◌∷◌, ◌++◌, sym, refl, ap, ◌∙◌, append_assoc, append-nil}
+-- The lines of a file are what stands between its line feeds, and a line feed is its last byte.
+use Rattle.std.proofs.Common.{◌≡◌, ℕ, suc, ◌-◌, ◌<◌, eqb, List, [], ◌∷◌, ◌++◌, length, get_or, sym, refl, ap, ◌∙◌, append_assoc, append-nil, arith}
 use Rattle.std.proofs.ByRecursion.{All-push}
 use Rattle.std.proofs.lemmas.Bool.{cond_both, eqb-true, eqb-false}
-use Rattle.std.specs.List.{flat_map, AllByRecursion}
+use Rattle.std.proofs.lemmas.List.Splits.{length-slice_split, slice_split-cons_yes, slice_split-cons_no}
+use Rattle.std.specs.List.{flat_map, onto_first, slice_split, AllByRecursion}
 use Rattle.scenario.specs.Files.{last_byte, lines_from, lines_of}
 
 -- a line feed stands behind each
@@ -45,3 +46,45 @@ unfed_from line (b ∷ bs) none =
 
 pub lines_unfed : (bytes : List ℕ) → AllByRecursion Unfed (lines_of bytes)
 lines_unfed bytes = unfed_from [] bytes tt
+
+-- a first line with more in front
+abbrev begun : List ℕ → List (List ℕ) → List (List ℕ)
+begun line [] = []
+begun line (l ∷ ls) = (line ++ l) ∷ ls
+
+begun-onto_first : (line : List ℕ) (b : ℕ) (ls : List (List ℕ)) → 0 < length ls → begun (line ++ b ∷ []) ls ≡ begun line (onto_first b ls)
+begun-onto_first line b [] some = absurd (omega arith)
+begun-onto_first line b (l ∷ ls) some = ap (λ k. k ∷ ls) (append_assoc line (b ∷ []) l)
+
+begun-nil : (ls : List (List ℕ)) → begun [] ls ≡ ls
+begun-nil [] = refl
+begun-nil (l ∷ ls) = refl
+
+split_from : (line text : List ℕ) → lines_from line (text ++ 10 ∷ []) ≡ begun line (slice_split (λ b. eqb b 10) text)
+split_from line [] = ap (λ l. l ∷ []) (sym (append-nil line))
+split_from line (b ∷ bs) =
+    let more = length-slice_split (λ c. eqb c 10) bs in
+    cond_both (eqb b 10) (line ∷ lines_from [] (bs ++ 10 ∷ [])) (lines_from (line ++ b ∷ []) (bs ++ 10 ∷ [])) (λ ls. ls ≡ begun line (slice_split (λ c. eqb c 10) (b ∷ bs)))
+    (λ feed. (λ i. sym (append-nil line) i ∷ (split_from [] bs ∙ begun-nil (slice_split (λ c. eqb c 10) bs)) i) ∙ ap (begun line) (sym (slice_split-cons_yes (λ c. eqb c 10) b bs feed)))
+    (λ other. split_from (line ++ b ∷ []) bs ∙ begun-onto_first line b (slice_split (λ c. eqb c 10) bs) (omega (arith, more)) ∙ ap (begun line) (sym (slice_split-cons_no (λ c. eqb c 10) b bs other)))
+
+-- the lines of a file that a line feed ends are the parts of what stands before it
+pub lines_of-feed : (text : List ℕ) → lines_of (text ++ 10 ∷ []) ≡ slice_split (λ b. eqb b 10) text
+lines_of-feed text = split_from [] text ∙ begun-nil (slice_split (λ b. eqb b 10) text)
+
+pub last_is : (b : ℕ) (bytes : List ℕ) (d : ℕ) → 0 < length bytes → last_byte b bytes ≡ get_or bytes (length bytes - 1) d
+last_is b [] d some = absurd (omega arith)
+last_is b (c ∷ []) d some = refl
+last_is b (c ∷ x ∷ xs) d some =
+    let e : suc (suc (length xs)) - 1 ≡ suc (length xs) = omega arith in
+    let f : suc (length xs) - 1 ≡ length xs = omega arith in
+    rw e (rw f at (last_is c (x ∷ xs) d (omega arith)))
+
+last_front : (b : ℕ) (bs : List ℕ) → last_byte b bs ≡ 10 → (front : List ℕ) × (b ∷ bs ≡ front ++ 10 ∷ [])
+last_front b [] last = ([], ap (λ c. c ∷ []) last)
+last_front b (c ∷ cs) last = let h = last_front c cs last in (b ∷ h.0, ap (λ l. b ∷ l) h.1)
+
+-- a file that ends as it has to, and not in a line feed, is empty
+pub unfed_empty : (bytes : List ℕ) → last_byte 10 bytes ≡ 10 → ((front : List ℕ) → bytes ≡ front ++ 10 ∷ [] → ⊥) → bytes ≡ []
+unfed_empty [] last other = refl
+unfed_empty (b ∷ bs) last other = let h = last_front b bs last in absurd (other h.0 h.1)

@@ -1,10 +1,11 @@
-pub mod Bytes
+pub mod Caused
 pub mod Feeds
 pub mod Lawful
 pub mod Limited
 pub mod Numerals
 pub mod Once
 pub mod Order
-pub mod Progress
+pub mod Read
 pub mod Scanned
+pub mod Scanning
 pub mod Total

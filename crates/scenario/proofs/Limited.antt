@@ -1,5 +1,5 @@
 -- Every sound line keeps the limits, so that a scenario that is read keeps them.
-use Rattle.std.proofs.Common.{◌≡◌, ℕ, eqb, leb, List, [], ◌∷◌, ◌++◌, length, drop, Some, None, Ok, Err, Option, Result, sym, refl, ap, ◌∙◌, subst, inl, inr, arith}
+use Rattle.std.proofs.Common.{◌<◌, ◌≡◌, ℕ, eqb, leb, List, [], ◌∷◌, ◌++◌, length, drop, Some, None, Ok, Err, Option, Result, sym, refl, ap, ◌∙◌, subst, inl, inr, arith}
 use Rattle.std.proofs.ByRecursion.{All-push}
 use Rattle.std.proofs.lemmas.Bool.{cond_both, leb-true}
 use Rattle.std.specs.List.{AllByRecursion}
@@ -8,17 +8,17 @@ use Rattle.terms.specs.Ranges.{between}
 use Rattle.terms.specs.declared.table.TableFault.{TableFault}
 use Rattle.terms.proofs.Added.{ok_passed}
 use Rattle.terms.proofs.Ranges.{between_bounds}
-use Rattle.kernel.specs.Limits.{PlanWithin, PoolWithin}
-use Rattle.kernel.specs.Plan.{Plan, Small, add_pool, set_lengths, subscribed, some_holds, discipline_of}
+use Rattle.kernel.specs.Limits.{PlanWithin}
+use Rattle.kernel.specs.Plan.{Plan, add_pool, set_lengths, subscribed, discipline_of}
+use Rattle.kernel.specs.Pools.{some_holds}
 use Rattle.kernel.specs.declared.fault.SetupFault.{SetupFault}
-use Rattle.kernel.specs.declared.layout.Pool.{Pool}
 use Rattle.kernel.proofs.Kept.{blank_within, pool_kept, lengths_kept, subscribed_kept, objects_kept_by_pool, objects_kept_by_lengths, objects_kept_by_subscribed}
 use Rattle.tables.specs.Drawing.{Drawing, add_send, add_state, set_initial, add_row, add_flat_row, set_marks, add_transition, set_arc}
 use Rattle.tables.specs.Limits.{DrawingWithin, From1To}
 use Rattle.tables.proofs.Kept.{undrawn_within, send_kept, state_kept, initial_kept, row_kept, flat_row_kept, marks_kept, transition_kept, arc_kept}
 use Rattle.scenario.specs.Cell.{Settings, Order, post, post_front, publish, recycle, dispatch}
 use Rattle.scenario.specs.Law.{Sound}
-use Rattle.scenario.specs.Limits.{EventWithin, OrderWithin, PageWithin}
+use Rattle.scenario.specs.Limits.{CellWithin, EventWithin, OrderWithin}
 use Rattle.scenario.specs.Lines.{field, exactly, at_least, by_setup, by_tables, by_script, with_plan, with_discipline, setup_line, table_line, script_line, event_of, object_of, addressed}
 use Rattle.scenario.specs.Parts.{rank_of, part_of}
 use Rattle.scenario.specs.Reading.{Page, LineIs, in_part, by_settings, by_drawing, by_order, blank_page}
@@ -81,7 +81,7 @@ module _ (d e : Drawing) (limits : DrawingWithin d) where
       cond_both (eqb l 68) _ _ Draws (λ _. drawn 4 ns (add_send d (field ns 0) (field ns 1) (field ns 2) (field ns 3)) (send_kept d e (field ns 0) (field ns 1) (field ns 2) (field ns 3)))
       (λ _. cond_both (eqb l 72) _ _ Draws (λ _. drawn 3 ns (add_state d (field ns 0) (field ns 1) (field ns 2)) (state_kept d e (field ns 0) (field ns 1) (field ns 2)))
       (λ _. cond_both (eqb l 73) _ _ Draws (λ _. drawn 2 ns (set_initial d (field ns 0) (field ns 1)) (initial_kept d e (field ns 0) (field ns 1)))
-      (λ _. cond_both (eqb l 82) _ _ Draws (λ _. drawn 7 ns (add_row d (field ns 0) (field ns 1) (field ns 2) (field ns 3) (field ns 4) (field ns 5) (field ns 6)) (row_kept d e (field ns 0) (field ns 1) (field ns 2) (field ns 3) (field ns 4) (field ns 5) (field ns 6)))
+      (λ _. cond_both (eqb l 82) _ _ Draws (λ _. drawn 7 ns (add_row d (record { state = field ns 0; signal = field ns 1; guard = field ns 2; value = field ns 3; kind = field ns 4; target = field ns 5; send = field ns 6 })) (row_kept d e (record { state = field ns 0; signal = field ns 1; guard = field ns 2; value = field ns 3; kind = field ns 4; target = field ns 5; send = field ns 6 })))
       (λ _. cond_both (eqb l 70) _ _ Draws (λ _. drawn 5 ns (add_flat_row d (field ns 0) (field ns 1) (field ns 2) (field ns 3) (field ns 4)) (flat_row_kept d e (field ns 0) (field ns 1) (field ns 2) (field ns 3) (field ns 4)))
       (λ _. cond_both (eqb l 78) _ _ Draws (λ _. drawn 2 ns (set_marks d (field ns 0) (field ns 1)) (marks_kept d e (field ns 0) (field ns 1)))
       (λ _. cond_both (eqb l 84) _ _ Draws (λ _. drawn 2 ns (add_transition d (field ns 0) (field ns 1)) (transition_kept d e (field ns 0) (field ns 1)))
@@ -129,9 +129,10 @@ module _ (p : Plan) where
         (λ _. cond_both (eqb l 103) _ _ Orders (λ _ is. let h = (ok_passed (eqb (length ns) 1) (Ok (dispatch (field ns 0))) (cause.Line Form) o is).1 in let same : dispatch (field ns 0) ≡ o = cc in subst (OrderWithin p) same tt)
         (λ _ is. let z : ◌≡◌ {A = ℕ} 0 1 = cc in absurd (omega arith))))))
 
-small : (ps : List Pool) → AllByRecursion PoolWithin ps → Small ps
-small [] all = tt
-small (p ∷ ps) all = (all.0.most, small ps all.1)
+-- so far: before the script part there is no script
+pub record PageWithin (s : Page) : Type 0 where
+  pub cell : CellWithin s.cell
+  pub early : rank_of s.part < 3 → s.cell.script ≡ []
 
 pub blank_page_within : PageWithin blank_page
 blank_page_within =
@@ -194,7 +195,3 @@ module _ (s t : Page) (limits : PageWithin s) where
 pub sound_kept : (s t : Page) (ls : List (List ℕ)) → Sound s ls t → PageWithin s → PageWithin t
 sound_kept s t [] same limits = subst PageWithin same limits
 sound_kept s t (l ∷ ls) (u, is, sound) limits = sound_kept u t ls sound (line_kept s u limits l is)
-
--- no frame of a page's pools holds more than eight words
-pub page_small : (s : Page) → PageWithin s → Small s.cell.settings.plan.pools
-page_small s limits = small s.cell.settings.plan.pools limits.cell.plan.pools

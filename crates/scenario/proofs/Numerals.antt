@@ -1,44 +1,61 @@
--- Digits, their value, and the one number that they write.
-use Rattle.std.proofs.Common.{◌≡◌, ℕ, zero, suc, ◌-◌, ◌<◌, ◌≤◌, List, [], ◌∷◌, length, get_or, take, decimal, sym, ap, ◌∙◌, ⊎_elim, arith}
-use Rattle.std.proofs.lemmas.Fmt.{decimal_is_IsNumeral, decimal_nonempty, decimal_digit, decimal-digits_value, first_decimal, length-decimal-le}
-use Rattle.std.proofs.lemmas.List.{length-take-le}
-use Rattle.std.proofs.lemmas.Str.Parse.{IsNumeralModel, numerals_by_value, tells_digits, digits_value_short}
-use Rattle.std.proofs.lemmas.Bool.{cases_order}
-use Rattle.std.specs.Str.Parse.{digits_value, AllDigits}
+-- Digits, and the one number that they write.
+use Rattle.std.proofs.Common.{◌≡◌, ℕ, zero, suc, ◌+◌, ◌*◌, ◌<◌, ◌≤◌, List, length, get_or, take, decimal, sym, refl, ap, ◌∙◌, subst, arith}
+use Rattle.std.proofs.lemmas.Fmt.{decimal_is_IsNumeral, decimal_digit, decimal_nonempty, decimal-digits_value, digits_decimal, first_decimal}
+use Rattle.std.proofs.lemmas.Str.Parse.{IsNumeralModel, numerals_by_value, tells_digits, digit_at, digits_value-take-le}
+use Rattle.std.proofs.lemmas.Int.Digits.{digits_more, digits_value_more}
 use Rattle.std.specs.Char.{digit_value}
-use Rattle.std.specs.Int.{IsInRange}
+use Rattle.std.specs.Str.Parse.{digits_value, AllDigits}
 
 pub own : IsNumeralModel (AllDigits 10) (digits_value 10)
 own = numerals_by_value (AllDigits 10) tells_digits
 
--- a digit's value is its distance from '0'
-pub digit_value_lem : (c : ℕ) → IsInRange 48 57 c → digit_value c ≡ c - 48
-digit_value_lem c h = grind (arith)
+-- the text is not that of a number up to 65535
+abbrev pub Unwritten : List ℕ → Type 0
+Unwritten ds = (n : ℕ) → n ≤ 65535 → decimal n ≡ ds → ⊥
 
-pub front_digits : (ds : List ℕ) (i : ℕ) → AllDigits 10 ds → AllDigits 10 (take i ds)
-front_digits ds zero h = tt
-front_digits [] (suc i) h = tt
-front_digits (d ∷ ds) (suc i) h = (h.0, front_digits ds i h.1)
+-- a digit leads, and a zero stands alone
+pub record Led (ds : List ℕ) : Type 0 where
+  pub some : 0 < length ds
+  pub low : 48 ≤ get_or ds 0 0
+  pub high : get_or ds 0 0 ≤ 57
+  pub alone : get_or ds 0 0 ≡ 48 → length ds ≡ 1
 
--- what the first i of few digits write is small
-pub front_small : (ds : List ℕ) (i : ℕ) → AllDigits 10 ds → length ds ≤ 5 → i ≤ length ds → digits_value 10 (take i ds) < 100000
-front_small ds i h few under = digits_value_short own (take i ds) 5 (front_digits ds i h) (simp length-take-le (omega arith))
+led : (n : ℕ) → n ≤ 65535 → Led (decimal n)
+led zero small = subst Led (sym (decimal_digit 0 (omega arith))) (record { some = omega arith; low = omega arith; high = omega arith; alone = λ _. refl })
+led (suc n) small =
+    let some = decimal_nonempty (suc n) (omega arith) in
+    let first = first_decimal (suc n) (omega arith) (omega arith) in
+    let digit = digit_at (decimal (suc n)) 0 (digits_decimal own (suc n) (omega arith)) some in
+    record { some = some; low = omega arith; high = omega arith; alone = λ led. absurd (omega arith) }
 
--- no number has a text that is empty, too long, or led by a zero
-pub not_empty : (n : ℕ) (ds : List ℕ) → n ≤ 65535 → decimal n ≡ ds → length ds ≡ 0 → ⊥
-not_empty n ds small is none = omega (arith, decimal_nonempty n (omega arith), ap length is)
+pub decimal_led : (n : ℕ) (ds : List ℕ) → n ≤ 65535 → decimal n ≡ ds → Led ds
+decimal_led n ds small is = subst Led is (led n small)
 
-pub not_long : (n : ℕ) (ds : List ℕ) → n ≤ 65535 → decimal n ≡ ds → 5 < length ds → ⊥
-not_long n ds small is long = omega (arith, length-decimal-le 5 n (omega arith) (omega arith) (omega arith), ap length is)
+-- the value of digits, up to 65535
+pub record Counts (ds : List ℕ) (value : ℕ) : Type 0 where
+  pub small : value ≤ 65535
+  pub all : AllDigits 10 ds
+  pub is : value ≡ digits_value 10 ds
 
-pub not_led : (n : ℕ) (ds : List ℕ) → n ≤ 65535 → decimal n ≡ ds → 1 < length ds → get_or ds 0 0 ≡ 48 → ⊥
-not_led zero ds small is long led = omega (arith, ap length (decimal_digit 0 (omega arith)), ap length is)
-not_led (suc n) ds small is long led = omega (arith, first_decimal (suc n) (omega arith) (omega arith), ap (λ l. get_or l 0 0) is)
+module _ (ds : List ℕ) where
+  -- the value of digits that are led as a number's are is the number that they write
+  pub written_from_counts : Led ds → (value : ℕ) → Counts ds value → (value ≤ 65535) × (decimal value ≡ ds)
+  written_from_counts lead value counts =
+      (counts.small, ap decimal counts.is ∙ decimal-digits_value own ds counts.all lead.some lead.alone (omega (arith, counts.small, counts.is)))
 
--- digits that are neither write their value
-pub just : (ds : List ℕ) → AllDigits 10 ds → 0 < length ds → (1 < length ds → get_or ds 0 0 ≡ 48 → ⊥) → digits_value 10 ds ≤ 65535 → decimal (digits_value 10 ds) ≡ ds
-just ds h some led small = decimal-digits_value own ds h some (λ zero-led. ⊎_elim (λ one. one) (⊎_elim (λ less. absurd (omega arith)) (λ more. absurd (led more zero-led))) (cases_order (length ds) 1)) (omega arith)
+  module _ (i : ℕ) (under : i < length ds) where
+    pub counts_more : (value more : ℕ) → Counts (take i ds) value → digit_value (get_or ds i 0) < 10 → more ≡ value * 10 + digit_value (get_or ds i 0) → more ≤ 65535 → Counts (take (i + 1) ds) more
+    counts_more value more counts digit is small =
+        record { small = small; all = digits_more 10 ds i under counts.all digit; is = omega (arith, is, counts.is, digits_value_more 10 ds i under) }
 
--- and no other number
-pub only : (n : ℕ) (ds : List ℕ) → n ≤ 65535 → decimal n ≡ ds → digits_value 10 ds ≡ n
-only n ds small is = sym (ap (digits_value 10) is) ∙ (decimal_is_IsNumeral n (omega arith)).1
+    -- a byte that is no digit stands in no number's text
+    pub unwritten_from_byte : (digit_value (get_or ds i 0) < 10 → ⊥) → Unwritten ds
+    unwritten_from_byte other n small is =
+        let digit = digit_at ds i (subst (AllDigits 10) is (digits_decimal own n (omega arith))) under in
+        other (grind arith)
+
+    -- nor do digits that write more than 65535
+    pub unwritten_from_more : (value : ℕ) → Counts (take i ds) value → 65535 < value * 10 + digit_value (get_or ds i 0) → Unwritten ds
+    unwritten_from_more value counts large n small is =
+        let whole = sym (ap (digits_value 10) is) ∙ (decimal_is_IsNumeral n (omega arith)).1 in
+        omega (arith, whole, counts.is, digits_value_more 10 ds i under, digits_value-take-le 10 ds (i + 1) (omega arith))

@@ -1,6 +1,6 @@
 -- A file has one answer: its bytes spell each line in one way.
-use Rattle.std.proofs.Common.{◌≡◌, ℕ, ◌+◌, List, [], ◌∷◌, ◌++◌, Ok, Err, decimal, Result, sym, refl, ap, ◌∙◌, subst, inl, inr, arith}
-use Rattle.std.proofs.lemmas.Fmt.{digits_decimal, decimal_injective}
+use Rattle.std.proofs.Common.{◌≡◌, ℕ, ◌+◌, List, [], ◌∷◌, map, length, Ok, Err, decimal, Result, sym, refl, ap, ◌∙◌, subst, inl, inr, arith}
+use Rattle.std.proofs.lemmas.Fmt.{decimal_injective}
 use Rattle.scenario.specs.Cell.{Cell}
 use Rattle.scenario.specs.Files.{Whole, WholeFault, file_fault, Reads, FileIs, lines_of}
 use Rattle.scenario.specs.Format.{spaced, Numbers, Spelt}
@@ -9,19 +9,21 @@ use Rattle.scenario.specs.declared.fault.Cause.{Cause}
 use Rattle.scenario.specs.declared.fault.Fault.{Fault}
 use Rattle.scenario.specs.declared.fault.FileFault.{FileFault}
 use Rattle.scenario.specs.declared.fault.FileFault.TheVariants.{TooLong, Unterminated}
-use Rattle.scenario.proofs.Numerals.{own}
-use Rattle.scenario.proofs.Scanned.{run_unique, spaced_undigit}
+use Rattle.scenario.proofs.Scanned.{parts_of-spaced, read_from_spaced}
 
-pub spaced_once : (ns ms : List ℕ) → Numbers ns → Numbers ms → spaced ns ≡ spaced ms → ns ≡ ms
-spaced_once [] [] hn hm e = refl
-spaced_once [] (m ∷ ms) hn hm e = let z : ◌≡◌ {A = ℕ} 0 1 = cc in absurd (omega arith)
-spaced_once (n ∷ ns) [] hn hm e = let z : ◌≡◌ {A = ℕ} 0 1 = cc in absurd (omega arith)
-spaced_once (n ∷ ns) (m ∷ ms) hn hm e =
-    let t : decimal n ++ spaced ns ≡ decimal m ++ spaced ms = cc in
-    let cut = run_unique (decimal n) (decimal m) (digits_decimal own n (omega (arith, hn.0))) (digits_decimal own m (omega (arith, hm.0))) (spaced_undigit ns) (spaced_undigit ms) t in
-    let same = decimal_injective n m (omega (arith, hn.0)) (omega (arith, hm.0)) cut.0 in
-    let rest = spaced_once ns ms hn.1 hm.1 cut.1 in
+decimals_once : (ns ms : List ℕ) → Numbers ns → Numbers ms → map decimal ns ≡ map decimal ms → ns ≡ ms
+decimals_once [] [] hn hm e = refl
+decimals_once [] (m ∷ ms) hn hm e = absurd (omega (arith, ap length e))
+decimals_once (n ∷ ns) [] hn hm e = absurd (omega (arith, ap length e))
+decimals_once (n ∷ ns) (m ∷ ms) hn hm e =
+    let first : decimal n ≡ decimal m = cc in
+    let more : map decimal ns ≡ map decimal ms = cc in
+    let same = decimal_injective n m (omega (arith, hn.0)) (omega (arith, hm.0)) first in
+    let rest = decimals_once ns ms hn.1 hm.1 more in
     λ i. same i ∷ rest i
+
+spaced_once : (ns ms : List ℕ) → Numbers ns → Numbers ms → spaced ns ≡ spaced ms → ns ≡ ms
+spaced_once ns ms hn hm e = decimals_once ns ms hn hm (read_from_spaced (parts_of-spaced ms hm) ns hn e).texts
 
 -- bytes spell at most one line
 pub spelt_once : (bytes : List ℕ) (l k : ℕ) (ns ms : List ℕ) → Spelt bytes l ns → Spelt bytes k ms → (l ≡ k) × (ns ≡ ms)

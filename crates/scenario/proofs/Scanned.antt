@@ -1,103 +1,132 @@
--- A text has one reading as numbers, each behind a space: the digits in front are one number's, and so on.
-use Rattle.std.proofs.Common.{◌≡◌, ℕ, zero, suc, ◌+◌, ◌*◌, ◌<◌, ◌≤◌, List, [], ◌∷◌, ◌++◌, length, get_or, drop, decimal, sym, refl, ap, ◌∙◌, subst, append_assoc, append-nil, arith, length-append}
-use Rattle.std.proofs.lemmas.Fmt.{decimal_nonempty, digits_decimal, decimal_injective}
-use Rattle.std.proofs.ByRecursion.{All-push}
-use Rattle.std.proofs.lemmas.List.{flat_map_more, length_push, nil_from_length}
+-- A text is numbers, each behind a space, where the parts between its spaces are: nothing, and then each number's text.
+use Rattle.std.proofs.Common.{◌≡◌, ℕ, ◌*◌, ◌<◌, ◌≤◌, Bool, false, List, [], ◌∷◌, ◌++◌, Some, None, Ok, Err, Option, Result, map, length, get_or, eqb, decimal, sym, refl, ap, ◌∙◌, subst, append-nil, arith, length-append}
+use Rattle.std.proofs.lemmas.Bool.{ne_eqb}
+use Rattle.std.proofs.lemmas.Fmt.{decimal_nonempty, digits_decimal}
+use Rattle.std.proofs.lemmas.Iterator.{YieldsList}
+use Rattle.std.proofs.lemmas.Iterator.Consumers.{YieldsList-at, YieldsList-turn, YieldsList-end}
+use Rattle.std.proofs.lemmas.List.{get_or-map, length-map, nil_from_length}
+use Rattle.std.proofs.lemmas.Option.{none-some}
+use Rattle.std.proofs.lemmas.List.Splits.{slice_split-cons_yes, slice_split-cons_no, join_with_byte-slice_split}
+use Rattle.std.proofs.ByRecursion.{All-get_or}
+use Rattle.std.specs.Iterator.{Yields}
+use Rattle.std.specs.List.{AllByRecursion, join_with_byte, onto_first, slice_split}
+use Rattle.std.specs.Result.{result_ok}
 use Rattle.std.specs.Str.Parse.{AllDigits}
-use Rattle.std.specs.Char.{digit_value}
-use Rattle.scenario.proofs.Numerals.{own}
-use Rattle.scenario.specs.Format.{spaced, Numbers}
-use Rattle.scenario.specs.Scanning.{First, NoFirst, Spaces, NoSpaces}
+use Rattle.terms.specs.Calls.{Follows}
+use Rattle.terms.specs.Entries.{added}
+use Rattle.terms.specs.declared.table.TableFault.{TableFault}
+use Rattle.terms.proofs.Added.{added_full}
+use Rattle.scenario.proofs.Numerals.{own, Unwritten}
+use Rattle.scenario.specs.Format.{spaced, Numbers, Spelt, Misspelt}
+use Rattle.scenario.proofs.Scanning.{Spaces, NoSpaces}
 
--- no digit stands in front
-abbrev pub Undigit : List ℕ → Type 0
-Undigit [] = Unit {0}
-Undigit (c ∷ cs) = digit_value c < 10 → ⊥
+-- elements that none cut belong to the first part
+pub split_front : {X : Type 0} (p : X → Bool) (xs ys part : List X) (parts : List (List X)) → AllByRecursion (λ x. p x ≡ false) xs → slice_split p ys ≡ part ∷ parts → slice_split p (xs ++ ys) ≡ (xs ++ part) ∷ parts
+split_front p [] ys part parts none is = is
+split_front p (x ∷ xs) ys part parts none is = slice_split-cons_no p x (xs ++ ys) none.0 ∙ ap (onto_first x) (split_front p xs ys part parts none.1 is)
 
-pub undigit_at : (ds : List ℕ) (i : ℕ) → (i < length ds → digit_value (get_or ds i 0) < 10 → ⊥) → Undigit (drop i ds)
-undigit_at [] zero h = tt
-undigit_at [] (suc i) h = tt
-undigit_at (d ∷ ds) zero h = h (omega arith)
-undigit_at (d ∷ ds) (suc i) h = undigit_at ds i (λ under. h (omega arith))
+-- the parts between the spaces of a text
+abbrev pub parts_of : List ℕ → List (List ℕ)
+parts_of text = slice_split (λ b. eqb b 32) text
 
--- two ways to cut the digits in front are one
-pub run_unique : (ds es : List ℕ) {xs ys : List ℕ} → AllDigits 10 ds → AllDigits 10 es → Undigit xs → Undigit ys → ds ++ xs ≡ es ++ ys → (ds ≡ es) × (xs ≡ ys)
-run_unique [] [] hd he ux uy e = (refl, e)
-run_unique [] (c ∷ es) hd he ux uy e = absurd (subst Undigit e ux he.0)
-run_unique (c ∷ ds) [] hd he ux uy e = absurd (subst Undigit (sym e) uy hd.0)
-run_unique (c ∷ ds) (d ∷ es) {xs} {ys} hd he ux uy e =
-    let h : c ≡ d = cc in
-    let t : ds ++ xs ≡ es ++ ys = cc in
-    let r = run_unique ds es hd.1 he.1 ux uy t in
-    (λ i. h i ∷ r.0 i, r.1)
+digits_unspaced : (ds : List ℕ) → AllDigits 10 ds → AllByRecursion (λ b. eqb b 32 ≡ false) ds
+digits_unspaced [] all = tt
+digits_unspaced (d ∷ ds) all = (ne_eqb d 32 (λ space. grind arith), digits_unspaced ds all.1)
 
--- numbers begin with a space
-pub spaced_undigit : (ns : List ℕ) → Undigit (spaced ns)
-spaced_undigit [] = tt
-spaced_undigit (n ∷ ns) = λ h. omega arith
-
--- what was read so far, and that every reading of the whole text begins with it
-pub record Sofar (text ns rest : List ℕ) : Type 0 where
-  pub read : spaced ns ++ rest ≡ text
+-- numbers that were read, and the parts that they were read from
+pub record Read (ns : List ℕ) (parts : List (List ℕ)) : Type 0 where
   pub small : Numbers ns
-  pub room : 2 * length ns + length rest ≤ 79
-  pub only : (ms : List ℕ) → Numbers ms → spaced ms ≡ text → (ks : List ℕ) × (ms ≡ ns ++ ks) × Numbers ks × (spaced ks ≡ rest)
+  pub texts : map decimal ns ≡ parts
 
-pub no_space : (text after : List ℕ) (b : ℕ) → text ≡ b ∷ after → (b ≡ 32 → ⊥) → NoFirst text
-no_space text after b is other m ms small e = let same : 32 ≡ b = cc in other (sym same)
+pub parts_of-spaced : (ns : List ℕ) → Numbers ns → parts_of (spaced ns) ≡ [] ∷ map decimal ns
+parts_of-spaced [] small = refl
+parts_of-spaced (n ∷ ns) small =
+    let digits = digits_unspaced (decimal n) (digits_decimal own n (omega (arith, small.0))) in
+    let front = split_front (λ b. eqb b 32) (decimal n) (spaced ns) [] (map decimal ns) digits (parts_of-spaced ns small.1) in
+    slice_split-cons_yes (λ b. eqb b 32) 32 (decimal n ++ spaced ns) refl ∙ ap (λ ps. [] ∷ ps) (front ∙ ap (λ ds. ds ∷ map decimal ns) (append-nil (decimal n)))
 
-module _ (text digits rest : List ℕ) (is : text ≡ 32 ∷ (digits ++ rest)) (all : AllDigits 10 digits) (stop : Undigit rest) where
-  cut : (m : ℕ) (ms : List ℕ) → m ≤ 65535 → spaced (m ∷ ms) ≡ text → (decimal m ≡ digits) × (spaced ms ≡ rest)
-  cut m ms small e =
-      let t : decimal m ++ spaced ms ≡ digits ++ rest = cc in
-      run_unique (decimal m) digits (digits_decimal own m (omega arith)) all (spaced_undigit ms) stop t
+joined : (part : List ℕ) (ns : List ℕ) → join_with_byte 32 (part ∷ map decimal ns) ≡ part ++ spaced ns
+joined part [] = sym (append-nil part)
+joined part (n ∷ ns) = ap (λ t. part ++ 32 ∷ t) (joined (decimal n) ns)
 
-  pub first_none : ((n : ℕ) → n ≤ 65535 → decimal n ≡ digits → ⊥) → NoFirst text
-  first_none none m ms small e = none m small (cut m ms small e).0
+-- however a text is read as numbers, it is from its parts
+pub read_from_spaced : {text : List ℕ} {parts : List (List ℕ)} → parts_of text ≡ [] ∷ parts → (ns : List ℕ) → Numbers ns → spaced ns ≡ text → Read ns parts
+read_from_spaced {text} {parts} cut ns small is =
+    let e : [] ∷ map decimal ns ≡ [] ∷ parts = sym (parts_of-spaced ns small) ∙ ap parts_of is ∙ cut in
+    record { small = small; texts = cc }
 
-  pub first_some : (n : ℕ) → n ≤ 65535 → decimal n ≡ digits → First text n rest
-  first_some n low writes =
-      record {
-        small = low;
-        front = ap (λ l. 32 ∷ (l ++ rest)) writes ∙ sym is;
-        only = λ m ms small e. (decimal_injective m n (omega arith) (omega arith) ((cut m ms small e).0 ∙ sym writes), (cut m ms small e).1);
-      }
+pub spaces_from_read : {text : List ℕ} {parts : List (List ℕ)} → parts_of text ≡ [] ∷ parts → (ns : List ℕ) → Read ns parts → Spaces text ns
+spaces_from_read {text} cut ns read = (read.small, sym (joined [] ns) ∙ ap (λ ps. join_with_byte 32 ([] ∷ ps)) read.texts ∙ ap (join_with_byte 32) (sym cut) ∙ join_with_byte-slice_split 32 text)
 
-pub start : (text : List ℕ) → length text ≤ 79 → Sofar text [] text
-start text short = record { read = refl; small = tt; room = omega arith; only = λ ms small e. (ms, refl, small, e) }
+-- a text that does not begin with a space, or has no part, is no numbers
+pub no_spaces_from_first : (text first : List ℕ) (parts : List (List ℕ)) → parts_of text ≡ first ∷ parts → (length first ≡ 0 → ⊥) → NoSpaces text
+no_spaces_from_first text first parts cut some ns small spells =
+    let same : [] ∷ map decimal ns ≡ first ∷ parts = sym (parts_of-spaced ns small) ∙ ap parts_of spells ∙ cut in
+    let empty : [] ≡ first = cc in
+    some (ap length (sym empty))
 
-pub no_first : (rest ks : List ℕ) → 0 < length rest → NoFirst rest → Numbers ks → spaced ks ≡ rest → ⊥
-no_first rest [] more none small e = omega (arith, ap length e)
-no_first rest (k ∷ ks) more none small e = none k ks small.0 e
+decimals_long : (ns : List ℕ) → Numbers ns → 2 * length ns ≤ length (spaced ns)
+decimals_long [] small = omega arith
+decimals_long (n ∷ ns) small = omega (arith, decimals_long ns small.1, decimal_nonempty n (omega (arith, small.0)), length-append (decimal n) (spaced ns))
 
-module _ {text ns rest : List ℕ} (sofar : Sofar text ns rest) where
-  pub stopped : 0 < length rest → NoFirst rest → NoSpaces text
-  stopped more none ms small e = let k = sofar.only ms small e in no_first rest k.0 more none k.2 k.3
+-- a line, from the text behind its letter
+pub misspelt_from_text : (bytes : List ℕ) (letter : ℕ) (text : List ℕ) → bytes ≡ letter ∷ text → NoSpaces text → Misspelt bytes
+misspelt_from_text bytes letter text is none l ns spelt =
+    let e : letter ∷ text ≡ l ∷ spaced ns = sym is ∙ spelt.text in
+    let same : spaced ns ≡ text = cc in
+    none ns spelt.numbers same
 
-  pub ended : length rest ≡ 0 → Spaces text ns
-  ended none = (sofar.small, sym (append-nil (spaced ns)) ∙ ap (λ l. spaced ns ++ l) (sym (nil_from_length rest none)) ∙ sofar.read)
+pub spelt_from_text : (bytes : List ℕ) (letter : ℕ) (text ns : List ℕ) → length bytes ≤ 80 → bytes ≡ letter ∷ text → Spaces text ns → Spelt bytes letter ns
+spelt_from_text bytes letter text ns short is spaces = record { short = short; numbers = spaces.0; text = is ∙ ap (λ t. letter ∷ t) (sym spaces.1) }
 
-  module _ {n : ℕ} {after : List ℕ} (first : First rest n after) where
-    shorter : length rest ≡ suc (length (decimal n) + length after)
-    shorter = sym (ap length first.front) ∙ ap suc (length-append (decimal n) after)
+-- an iterator that yields the parts behind the first, which is empty
+pub record Cut {S A : Type 0} (steps : S → Option A → S → Type 0) (v : A → List ℕ) (text : List ℕ) (s : S) : Type 0 where
+  pub parts : List (List ℕ)
+  pub are : parts_of text ≡ [] ∷ parts
+  pub chain : YieldsList steps v s parts
 
-    pub falls : length after < length rest
-    falls = omega (arith, shorter)
+module _ {S A : Type 0} {steps : S → Option A → S → Type 0} {v : A → List ℕ} where
+  module _ (text : List ℕ) {s : S} (r : Option A) (t : S) (x : A) where
+    behind : (all : List (List ℕ)) → YieldsList steps v s all → steps s r t → r ≡ Some x → (parts : List (List ℕ)) × (all ≡ v x ∷ parts) × YieldsList steps v t parts
+    behind [] e step is = absurd (e.runs x t (subst (λ o. steps s o t) is step))
+    behind (y ∷ ys) e step is = let h = e.runs.1 x t (subst (λ o. steps s o t) is step) in (ys, (λ i. sym h.0 i ∷ ys), record { runs = h.1 })
 
-    pub not_full : 39 ≤ length ns → ⊥
-    not_full full = omega (arith, shorter, sofar.room, decimal_nonempty n (omega (arith, first.small)))
+    pub cut_first : YieldsList steps v s (parts_of text) → steps s r t → r ≡ Some x → length (v x) ≡ 0 → (u : S) → u ≡ t → Cut steps v text u
+    cut_first e step is none u same =
+        let h = behind (parts_of text) e step is in
+        record { parts = h.0; are = h.1 ∙ (λ i. nil_from_length (v x) none i ∷ h.0); chain = YieldsList-at same h.2 }
 
-    further : (ms ks : List ℕ) → ms ≡ ns ++ ks → Numbers ks → spaced ks ≡ rest → (ls : List ℕ) × (ms ≡ (ns ++ n ∷ []) ++ ls) × Numbers ls × (spaced ls ≡ after)
-    further ms [] is small e = absurd (omega (arith, shorter, ap length e))
-    further ms (k ∷ ks) is small e =
-        let o = first.only k ks small.0 e in
-        (ks, is ∙ ap (λ j. ns ++ j ∷ ks) o.0 ∙ sym (append_assoc ns (n ∷ []) ks), small.1, o.1)
+    -- a first part that is not empty
+    pub not_cut : YieldsList steps v s (parts_of text) → steps s r t → r ≡ Some x → (length (v x) ≡ 0 → ⊥) → NoSpaces text
+    not_cut e step is some =
+        let h = behind (parts_of text) e step is in
+        no_spaces_from_first text (v x) h.0 h.1 some
 
-    pub step : Sofar text (ns ++ n ∷ []) after
-    step =
-        record {
-          read = ap (λ l. l ++ after) (sym (flat_map_more (λ k. 32 ∷ decimal k) [] ns n)) ∙ append_assoc (spaced ns) (32 ∷ decimal n) after ∙ ap (λ l. spaced ns ++ l) first.front ∙ sofar.read;
-          small = All-push (λ k. k ≤ 65535) ns n sofar.small first.small;
-          room = omega (arith, shorter, sofar.room, decimal_nonempty n (omega (arith, first.small)), length_push ns n);
-          only = λ ms small e. let k = sofar.only ms small e in further ms k.0 k.1 k.2 k.3;
-        }
+  module _ {text : List ℕ} {s : S} (cut : Cut steps v text s) (xs : List A) (t : S) (yields : Yields steps s xs t) {ns : List ℕ} (read : Read ns (map v xs)) (r : Option A) (u : S) (step : steps t r u) where
+    count : length ns ≡ length xs
+    count = sym (length-map ns decimal) ∙ ap length read.texts ∙ length-map xs v
+
+    -- a part that is no number's text
+    pub not_read : (x : A) → r ≡ Some x → Unwritten (v x) → NoSpaces text
+    not_read x is none ms small spells =
+        let all = (read_from_spaced cut.are ms small spells).texts in
+        let turn = YieldsList-turn cut.chain xs t yields r u x is step in
+        let under : length xs < length ms = omega (arith, turn.0, ap length all, length-map ms decimal) in
+        none (get_or ms (length xs) 0) (All-get_or (λ n. n ≤ 65535) ms (length xs) 0 under small) (sym (get_or-map decimal ms (length xs) 0 (v x) under) ∙ ap (λ ps. get_or ps (length xs) (v x)) all ∙ sym turn.1)
+
+    -- a number more than there is room for
+    pub not_held : (x : A) → r ≡ Some x → length text ≤ 79 → 39 ≤ length ns → NoSpaces text
+    not_held x is short full ms small spells =
+        let all = (read_from_spaced cut.are ms small spells).texts in
+        let turn = YieldsList-turn cut.chain xs t yields r u x is step in
+        omega (arith, turn.0, count, ap length all, length-map ms decimal, decimals_long ms small, ap length spells)
+
+    pub all_read : r ≡ None → Spaces text ns
+    all_read is =
+        let end = YieldsList-end cut.chain xs t yields r u is step in
+        spaces_from_read cut.are ns (record { small = read.small; texts = read.texts ∙ end.0 })
+
+-- where a push is refused, the table is full
+pub full_from_push : {T : Type 0} (N : ℕ) (xs ys : List T) (x : T) {U : Type 0} (r : Result U TableFault) → Follows (added N xs (Some x)) r xs ys → result_ok r ≡ None → N ≤ length xs
+full_from_push N xs ys x (Ok u) h is = absurd (none-some u (sym is))
+full_from_push N xs ys x (Err f) h is = added_full N xs x f h.0

@@ -1,87 +1,65 @@
 -- Every file has an answer: bytes spell a line or none, and so on from line to line.
-use Rattle.std.proofs.Common.{◌≡◌, ℕ, zero, suc, ◌+◌, ◌≤◌, ◌⊎◌, List, [], ◌∷◌, ◌++◌, length, get_or, Ok, Err, decimal, Result, sym, refl, ap, ◌∙◌, inl, inr, ⊎_elim, arith, length-append}
-use Rattle.std.proofs.lemmas.Bool.{cases_lt, cases_eq}
-use Rattle.std.specs.Str.Parse.{digits_value, AllDigits}
-use Rattle.std.specs.Char.{digit_value}
+use Rattle.std.proofs.Common.{◌≡◌, ℕ, ◌+◌, ◌≤◌, ◌⊎◌, List, [], ◌∷◌, map, length, Ok, Err, decimal, Result, sym, refl, ap, ◌∙◌, inl, inr, ⊎_elim, arith}
+use Rattle.std.proofs.lemmas.Bool.{cases_Bool, cases_lt, cases_eq, false≢true}
+use Rattle.std.proofs.lemmas.Fmt.{digits_value-decimal}
+use Rattle.std.proofs.lemmas.Slice.Eq.{bytes_eq-Decides}
+use Rattle.std.specs.Str.{bytes_eq}
+use Rattle.std.specs.Str.Parse.{digits_value}
 use Rattle.scenario.specs.Cell.{Cell}
 use Rattle.scenario.specs.Files.{file_fault, Reads, FileIs, lines_of, last_byte}
-use Rattle.scenario.specs.Format.{spaced, Spelt, Misspelt}
+use Rattle.scenario.specs.Format.{Spelt, Misspelt}
 use Rattle.scenario.specs.Lines.{misshapen}
 use Rattle.scenario.specs.Reading.{Page, LineIs, means, blank_page}
-use Rattle.scenario.specs.Scanning.{First, NoFirst, Spaces, NoSpaces}
+use Rattle.scenario.proofs.Scanning.{Spaces, NoSpaces}
 use Rattle.scenario.specs.declared.fault.Cause.{Cause}
 use Rattle.scenario.specs.declared.fault.Fault.{Fault}
 use Rattle.scenario.specs.declared.fault.FileFault.TheVariants.{TooLong, Unterminated}
-use Rattle.scenario.proofs.Numerals.{not_empty, not_led, just, only}
-use Rattle.scenario.proofs.Scanned.{Undigit, no_space, first_none, first_some, no_first}
+use Rattle.scenario.proofs.Numerals.{own, Unwritten}
+use Rattle.scenario.proofs.Scanned.{Read, parts_of, parts_of-spaced, read_from_spaced, spaces_from_read, no_spaces_from_first, misspelt_from_text, spelt_from_text}
 
--- digits write a number, or no number's text is these digits
-numbered : (ds : List ℕ) → AllDigits 10 ds → ((n : ℕ) × (n ≤ 65535) × (decimal n ≡ ds)) ⊎ ((n : ℕ) → n ≤ 65535 → decimal n ≡ ds → ⊥)
-numbered ds all =
+-- bytes are a number's text, or no number's
+numbered : (ds : List ℕ) → ((n : ℕ) × (n ≤ 65535) × (decimal n ≡ ds)) ⊎ Unwritten ds
+numbered ds =
+    let value = λ (n : ℕ) (small : n ≤ 65535) (is : decimal n ≡ ds). sym (ap (digits_value 10) is) ∙ digits_value-decimal own n (omega arith) in
     ⊎_elim
-    (λ large. inr (λ n small is. omega (arith, only n ds small is)))
+    (λ large. inr (λ n small is. omega (arith, value n small is)))
     (λ fits.
     ⊎_elim
-    (λ none. inr (λ n small is. not_empty n ds small is none))
-    (λ some.
-    ⊎_elim
-    (λ long. ⊎_elim (λ led. inr (λ n small is. not_led n ds small is long led)) (λ other. inl (digits_value 10 ds, fits, just ds all (omega arith) (λ _ led. other led) fits)) (cases_eq (get_or ds 0 0) 48))
-    (λ short. inl (digits_value 10 ds, fits, just ds all (grind arith) (λ long _. omega arith) fits))
-    (cases_lt 1 (length ds)))
-    (cases_eq (length ds) 0))
+    (λ same. inl (digits_value 10 ds, fits, (bytes_eq-Decides (decimal (digits_value 10 ds)) ds).0 same))
+    (λ other. inr (λ n small is. false≢true (sym other ∙ (bytes_eq-Decides (decimal (digits_value 10 ds)) ds).1 (ap decimal (value n small is) ∙ is))))
+    (cases_Bool (bytes_eq (decimal (digits_value 10 ds)) ds)))
     (cases_lt 65535 (digits_value 10 ds))
 
--- the digits in front of a text, and what follows them
-record Run (text : List ℕ) : Type 0 where
-  digits : List ℕ
-  rest : List ℕ
-  is : text ≡ digits ++ rest
-  all : AllDigits 10 digits
-  stop : Undigit rest
+unnumbered : (part : List ℕ) (parts : List (List ℕ)) → Unwritten part → (ns : List ℕ) → Read ns (part ∷ parts) → ⊥
+unnumbered part parts none [] read = let e = ap length read.texts in omega arith
+unnumbered part parts none (n ∷ ns) read = let e = read.texts in let same : decimal n ≡ part = cc in none n read.small.0 same
 
-run : (text : List ℕ) → Run text
-run [] = record { digits = []; rest = []; is = refl; all = tt; stop = tt }
-run (c ∷ text) =
-    ⊎_elim
-    (λ digit. let more = run text in record { digits = c ∷ more.digits; rest = more.rest; is = ap (λ l. c ∷ l) more.is; all = (digit, more.all); stop = more.stop })
-    (λ other. record { digits = []; rest = c ∷ text; is = refl; all = tt; stop = λ digit. omega arith })
-    (cases_lt (digit_value c) 10)
+unread : (part : List ℕ) (parts : List (List ℕ)) → ((ns : List ℕ) → Read ns parts → ⊥) → (ns : List ℕ) → Read ns (part ∷ parts) → ⊥
+unread part parts none [] read = let e = ap length read.texts in omega arith
+unread part parts none (n ∷ ns) read = let e = read.texts in let same : map decimal ns ≡ parts = cc in none ns (record { small = read.small.1; texts = same })
 
--- a number stands in front, or none
-fronted : (c : ℕ) (text : List ℕ) → ((n : ℕ) × (rest : List ℕ) × First (c ∷ text) n rest) ⊎ NoFirst (c ∷ text)
-fronted c text =
+-- parts are the texts of numbers, or of no numbers
+counted : (parts : List (List ℕ)) → ((ns : List ℕ) × Read ns parts) ⊎ ((ns : List ℕ) → Read ns parts → ⊥)
+counted [] = inl ([], record { small = tt; texts = refl })
+counted (part ∷ parts) =
     ⊎_elim
-    (λ space.
-    let r = run text in
-    let is : c ∷ text ≡ 32 ∷ (r.digits ++ r.rest) = (λ i. space i ∷ r.is i) in
+    (λ n.
     ⊎_elim
-    (λ n. inl (n.0, r.rest, first_some (c ∷ text) r.digits r.rest is r.all r.stop n.0 n.1 n.2))
-    (λ none. inr (first_none (c ∷ text) r.digits r.rest is r.all r.stop none))
-    (numbered r.digits r.all))
-    (λ other. inr (no_space (c ∷ text) text c refl other))
-    (cases_eq c 32)
+    (λ more. inl (n.0 ∷ more.0, record { small = (n.1, more.1.small); texts = (λ i. n.2 i ∷ more.1.texts i) }))
+    (λ none. inr (λ ns read. unread part parts none ns read))
+    (counted parts))
+    (λ none. inr (λ ns read. unnumbered part parts none ns read))
+    (numbered part)
 
-only_none : (text : List ℕ) (n : ℕ) (rest : List ℕ) → First text n rest → NoSpaces rest → NoSpaces text
-only_none text n rest first none [] small e = let f = ap length first.front in let g = ap length e in absurd (omega arith)
-only_none text n rest first none (m ∷ ms) small e = none ms small.1 (first.only m ms small.0 e).1
-
--- a text is numbers, each behind one space, or no numbers are that text; k bounds its length
-counted : (k : ℕ) (text : List ℕ) → length text ≤ k → ((ns : List ℕ) × Spaces text ns) ⊎ NoSpaces text
-counted k [] few = inl ([], (tt, refl))
-counted zero (c ∷ text) few = absurd (omega arith)
-counted (suc k) (c ∷ text) few =
+-- a text is numbers, each behind one space, or no numbers are that text
+split_cases : (text : List ℕ) (all : List (List ℕ)) → parts_of text ≡ all → ((ns : List ℕ) × Spaces text ns) ⊎ NoSpaces text
+split_cases text [] cut = inr (λ ns small is. let e = ap length (sym (parts_of-spaced ns small) ∙ ap parts_of is ∙ cut) in omega arith)
+split_cases text ([] ∷ parts) cut =
     ⊎_elim
-    (λ f.
-    let n = f.0 in
-    let rest = f.1 in
-    let first = f.2 in
-    let less : length rest ≤ k = omega (arith, ap length first.front, length-append (decimal n) rest) in
-    ⊎_elim
-    (λ more. inl (n ∷ more.0, ((first.small, more.1.0), ap (λ l. 32 ∷ (decimal n ++ l)) more.1.1 ∙ first.front)))
-    (λ none. inr (λ ns small e. only_none (c ∷ text) n rest first none ns small e))
-    (counted k rest less))
-    (λ none. inr (λ ns small e. no_first (c ∷ text) ns (omega arith) none small e))
-    (fronted c text)
+    (λ read. inl (read.0, spaces_from_read cut read.0 read.1))
+    (λ none. inr (λ ns small is. none ns (read_from_spaced cut ns small is)))
+    (counted parts)
+split_cases text ((b ∷ bs) ∷ parts) cut = inr (no_spaces_from_first text (b ∷ bs) parts cut (λ none. omega arith))
 
 spelling : (bytes : List ℕ) → ((l : ℕ) × (ns : List ℕ) × Spelt bytes l ns) ⊎ Misspelt bytes
 spelling [] = inr (λ l ns spelt. let e = ap length spelt.text in omega arith)
@@ -90,9 +68,9 @@ spelling (l ∷ text) =
     (λ long. inr (λ k ms spelt. let s = spelt.short in omega arith))
     (λ short.
     ⊎_elim
-    (λ read. inl (l, read.0, record { short = omega arith; numbers = read.1.0; text = ap (λ t. l ∷ t) (sym read.1.1) }))
-    (λ none. inr (λ k ms spelt. let e = spelt.text in let t : text ≡ spaced ms = cc in none ms spelt.numbers (sym t)))
-    (counted (length text) text (omega arith)))
+    (λ read. inl (l, read.0, spelt_from_text (l ∷ text) l text read.0 (omega arith) refl read.1))
+    (λ none. inr (misspelt_from_text (l ∷ text) l text refl none))
+    (split_cases text (parts_of text) refl))
     (cases_lt 80 (length (l ∷ text)))
 
 line_some : (s : Page) (bytes : List ℕ) → (r : Result Page Cause) × LineIs s bytes r

@@ -1,7 +1,8 @@
 -- What a whole scenario file says, from its bytes.
-use Rattle.std.specs.Prelude.{◌≡◌, ℕ, ◌+◌, ◌<◌, ◌≤◌, cond, ◌⊎◌, List, [], ◌∷◌, ◌++◌, map, length, Ok, Err, vec_items, Result, ◌==◌, ◌≢◌}
-use Rattle.tables.specs.Drawing.{drawing}
+use Rattle.std.specs.Prelude.{◌≡◌, ℕ, ◌+◌, ◌<◌, ◌≤◌, cond, ◌⊎◌, List, [], ◌∷◌, ◌++◌, map, length, Ok, Err, vec_items, Result, ◌==◌, ◌≢◌, codes}
+use Rattle.tables.specs.Tables.{drawing}
 use Rattle.scenario.specs.Cell.{Cell, setting_of, order}
+use Rattle.scenario.specs.Faults.{fault_text}
 use Rattle.scenario.specs.Reading.{Page, LineIs, blank_page}
 use Rattle.scenario.specs.declared.fault.Cause.{Cause}
 use Rattle.scenario.specs.declared.fault.Cause.TheVariants as cause
@@ -52,6 +53,11 @@ FileIs bytes a = ((f : FileFault) × WholeFault bytes f × (a ≡ Err (file_faul
 abbrev pub Unless : ReadError → (Fault → Type 0) → Type 0
 Unless Memory P = Unit {0}
 Unless (Faulty f) P = P f
+
+-- what is printed of an error: the fault as it prints itself
+abbrev pub read_error_text : ReadError → List ℕ
+read_error_text (Faulty f) = fault_text f
+read_error_text Memory = codes "out of memory"
 
 -- the cell that a scenario describes
 abbrev pub cell_of : Scenario → Cell

@@ -8,4 +8,3 @@ pub mod Lines
 pub mod Listings
 pub mod Parts
 pub mod Reading
-pub mod Scanning

@@ -1,13 +1,12 @@
 -- The limits of a scenario.
-use Rattle.std.specs.Prelude.{◌≡◌, ◌<◌, true, [], length}
+use Rattle.std.specs.Prelude.{◌≡◌, true, length}
 use Rattle.std.specs.List.{AllByRecursion}
 use Rattle.terms.specs.Events.{Content}
 use Rattle.kernel.specs.Limits.{PlanWithin}
-use Rattle.kernel.specs.Plan.{Plan, some_holds}
+use Rattle.kernel.specs.Pools.{some_holds}
+use Rattle.kernel.specs.Plan.{Plan}
 use Rattle.tables.specs.Limits.{DrawingWithin, From1To}
 use Rattle.scenario.specs.Cell.{Cell, Order, post, post_front, publish, recycle, dispatch}
-use Rattle.scenario.specs.Parts.{rank_of}
-use Rattle.scenario.specs.Reading.{Page}
 
 -- a signal from 1 to 64, and words that some pool holds
 pub record EventWithin (p : Plan) (e : Content) : Type 0 where
@@ -27,8 +26,3 @@ pub record CellWithin (c : Cell) : Type 0 where
   pub plan : PlanWithin c.settings.plan
   pub drawing : DrawingWithin c.drawing
   pub script : AllByRecursion (OrderWithin c.settings.plan) c.script
-
--- so far: before the script part there is no script
-pub record PageWithin (s : Page) : Type 0 where
-  pub cell : CellWithin s.cell
-  pub early : rank_of s.part < 3 → s.cell.script ≡ []

@@ -3,7 +3,8 @@ use Rattle.std.specs.Prelude.{â„•, cond, List, length, drop, Ok, Err, Result, â—
 use Rattle.terms.specs.Events.{Content}
 use Rattle.terms.specs.Ranges.{between}
 use Rattle.terms.specs.declared.table.TableFault.{TableFault}
-use Rattle.kernel.specs.Plan.{Plan, add_pool, set_lengths, subscribed, some_holds, discipline_of}
+use Rattle.kernel.specs.Pools.{some_holds}
+use Rattle.kernel.specs.Plan.{Plan, add_pool, set_lengths, subscribed, discipline_of}
 use Rattle.kernel.specs.declared.discipline.Discipline.{Discipline}
 use Rattle.kernel.specs.declared.fault.SetupFault.{SetupFault}
 use Rattle.tables.specs.Drawing.{Drawing, add_send, add_state, set_initial, add_row, add_flat_row, set_marks, add_transition, set_arc}
@@ -57,7 +58,7 @@ table_line d l ns =
     cond (l == 68) (exactly 4 ns (by_tables (add_send d (field ns 0) (field ns 1) (field ns 2) (field ns 3))))
     (cond (l == 72) (exactly 3 ns (by_tables (add_state d (field ns 0) (field ns 1) (field ns 2))))
     (cond (l == 73) (exactly 2 ns (by_tables (set_initial d (field ns 0) (field ns 1))))
-    (cond (l == 82) (exactly 7 ns (by_tables (add_row d (field ns 0) (field ns 1) (field ns 2) (field ns 3) (field ns 4) (field ns 5) (field ns 6))))
+    (cond (l == 82) (exactly 7 ns (by_tables (add_row d (record { state = field ns 0; signal = field ns 1; guard = field ns 2; value = field ns 3; kind = field ns 4; target = field ns 5; send = field ns 6 }))))
     (cond (l == 70) (exactly 5 ns (by_tables (add_flat_row d (field ns 0) (field ns 1) (field ns 2) (field ns 3) (field ns 4))))
     (cond (l == 78) (exactly 2 ns (by_tables (set_marks d (field ns 0) (field ns 1))))
     (cond (l == 84) (exactly 2 ns (by_tables (add_transition d (field ns 0) (field ns 1))))

@@ -1,6 +1,7 @@
 -- How a scenario file is read, line after line.
 use Rattle.std.specs.Prelude.{◌≡◌, ℕ, cond, ◌⊎◌, List, [], ◌∷◌, ◌++◌, map, Some, None, Ok, Err, vec_items, Option, Result, Vec, nat_le}
-use Rattle.tables.specs.Drawing.{Drawing, drawing}
+use Rattle.tables.specs.Drawing.{Drawing}
+use Rattle.tables.specs.Tables.{drawing}
 use Rattle.scenario.specs.Cell.{Settings, Cell, Order, setting_of, empty, order}
 use Rattle.scenario.specs.Format.{Spelt, Misspelt}
 use Rattle.scenario.specs.Lines.{misshapen, setup_line, table_line, script_line}

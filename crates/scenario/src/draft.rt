@@ -1,6 +1,6 @@
 // A scenario as far as its lines were read: the part that they have reached, the set-up and the tables.
 ghost use Rattle.std.specs.Prelude.{◌≡◌, List, []};
-ghost use Rattle.kernel.specs.Plan.{plan, Small};
+ghost use Rattle.terms.specs.Entries.{entries};
 ghost use Rattle.scenario.specs.Cell.{Order};
 ghost use Rattle.scenario.specs.Reading.{drafted, outcome, means, LineIs, blank_page};
 
@@ -34,37 +34,31 @@ impl Draft {
 
     // Takes the next line, and answers the command of a line of the script.
     pub(crate) fn line(&mut self, bytes: &[u8]) -> Result<Option<Command>, Cause>
-        requires { Small (plan self.old.setting.layout).pools }
         ensures { (script : List Order) → LineIs (drafted self.old script) bytes.now (outcome self.new script result) }
     {
-        let Some(line) = Line::parse(bytes) else {
-            return Err(LineFault::Form.into());
-        };
-        self.act(line.letter, line.numbers.as_slice())
+        let line = Line::parse(bytes).ok_or(LineFault::Form)?;
+        self.act(&line)
     }
 
     // What a line says, once it is spelt.
-    fn act(&mut self, letter: char, numbers: &[u16]) -> Result<Option<Command>, Cause>
-        requires { Small (plan self.old.setting.layout).pools }
-        ensures { (script : List Order) → outcome self.new script result ≡ means (drafted self.old script) letter numbers.now }
+    fn act(&mut self, line: &Line) -> Result<Option<Command>, Cause>
+        ensures { (script : List Order) → outcome self.new script result ≡ means (drafted self.old script) line.now.letter (entries line.now.numbers) }
     {
-        let Some(part) = Part::of_letter(letter) else {
-            return Err(LineFault::Form.into());
-        };
-        if part.rank() < self.part.rank() {
+        let part = Part::of_letter(line.letter).ok_or(LineFault::Form)?;
+        if part < self.part {
             return Err(LineFault::Form.into());
         }
         self.part = part;
         match part {
             Part::Setup => {
-                setup_line(&mut self.setting, letter, numbers)?;
+                setup_line(&mut self.setting, line)?;
                 Ok(None)
             }
             Part::Tables => {
-                table_line(&mut self.tables, letter, numbers)?;
+                table_line(&mut self.tables, line)?;
                 Ok(None)
             }
-            Part::Script => Ok(Some(script_line(&self.setting.layout, letter, numbers)?)),
+            Part::Script => Ok(Some(script_line(&self.setting.layout, line)?)),
         }
     }
 }

@@ -3,7 +3,7 @@ ghost use Rattle.std.specs.Prelude.{◌≡◌, MatchOption};
 ghost use Rattle.terms.specs.Entries.{entries};
 ghost use Rattle.scenario.specs.Format.{Spelt, Misspelt};
 
-use crate::digits::numbers;
+use crate::digits::number;
 use terms::table::Table;
 
 #[derive(Drop)]
@@ -13,21 +13,25 @@ pub(crate) struct Line {
 }
 
 impl Line {
-    // The line that the bytes spell; at most 80 bytes spell one.
+    // The line that the bytes spell: a letter, then each number behind one space. At most 80 bytes spell one, so that
+    // the table has room for all numbers.
     pub(crate) fn parse(bytes: &[u8]) -> Option<Line>
         ensures { MatchOption result (Misspelt bytes.now) (λ line. Spelt bytes.now line.letter (entries line.numbers)) }
     {
         if bytes.len() > 80 {
             return None;
         }
-        let Some((letter, text)) = bytes.split_first() else {
+        let (letter, text) = bytes.split_first()?;
+        let mut parts = text.split(|b| *b == b' ');
+        if !parts.next()?.is_empty() {
             return None;
-        };
-        let Some(numbers) = numbers(text) else {
-            return None;
-        };
+        }
+        let mut numbers = Table::new(0);
+        for digits in parts {
+            numbers.push(number(digits)?).ok()?;
+        }
         Some(Line {
-            letter: *letter as char,
+            letter: char::from(*letter),
             numbers,
         })
     }

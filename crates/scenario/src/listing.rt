@@ -1,21 +1,35 @@
 // The listing of a scenario file, as text.
-ghost use Rattle.std.specs.Prelude.{◌≡◌, ◌<◌, [], ◌∷◌, ◌++◌, IfOk, string_bytes, MatchResult};
+ghost use Rattle.std.specs.Prelude.{◌≡◌, ◌<◌, Some, IfOk, string_bytes, MatchResult};
 ghost use Rattle.scenario.specs.declared.listing.ListError.TheVariants as error;
-ghost use Rattle.scenario.specs.Format.{written};
 ghost use Rattle.scenario.specs.Law.{Law};
-ghost use Rattle.scenario.specs.Listings.{fault_line, frame_counts, frames_line, Listed, Unlisted};
+ghost use Rattle.scenario.specs.Listings.{fault_line, frames_line, frames_text, list_error_text, Listed, Unlisted};
 
 use crate::fault::Fault;
 use crate::reader::{ReadError, read};
 use kernel::layout::Pool;
 use std::alloc::{AllocError, Global};
+use std::error::Error;
+use std::fmt;
 
 // Why there is no listing: the file has a script, or memory is wanting.
-#[derive(Clone, Copy)]
+#[derive(Clone, Copy, Debug, PartialEq, Eq)]
 pub enum ListError {
     Script,
     Memory,
 }
+
+impl fmt::Display for ListError {
+    ghost output = { λ e. Some (list_error_text e) };
+
+    fn fmt<W: fmt::Write>(&self, f: &mut fmt::Formatter<W>) -> fmt::Result {
+        f.write_str(match self {
+            ListError::Script => "scripts are not run yet",
+            ListError::Memory => "out of memory",
+        })
+    }
+}
+
+impl Error for ListError {}
 
 impl From<AllocError> for ListError {
     ghost from_gives = { λ _ r. r ≡ error.Memory };
@@ -25,46 +39,36 @@ impl From<AllocError> for ListError {
     }
 }
 
-// A letter and numbers as the scenario file has them, with the line feed.
-fn line(heap: Global, letter: char, numbers: &[u16]) -> Result<String, AllocError>
-    requires { letter < 128 }
-    ensures { IfOk result (λ s. string_bytes s ≡ written letter numbers.now ++ 10 ∷ []) }
-{
-    let mut text = String::new(heap);
-    text.push(letter)?;
-    for number in numbers {
-        let more = format!(in heap; " {number}")?;
-        text.push_str(more.as_str())?;
+// The frames of each pool, as a listing shows them: `z`, then their counts.
+#[derive(Clone, Copy, Debug, PartialEq, Eq)]
+struct Frames<'a> {
+    pools: &'a [Pool],
+}
+
+impl fmt::Display for Frames<'_> {
+    ghost output = { λ frames. Some (frames_text frames.pools.now) };
+
+    fn fmt<W: fmt::Write>(&self, f: &mut fmt::Formatter<W>) -> fmt::Result {
+        write!(f, "z")?;
+        for pool in self.pools {
+            write!(f, " {}", pool.count)?;
+        }
+        Ok(())
     }
-    text.push('\n')?;
-    Ok(text)
 }
 
 // What is printed of a faulty file.
 pub fn fault_line(heap: Global, fault: Fault) -> Result<String, AllocError>
     ensures { IfOk result (λ s. string_bytes s ≡ fault_line fault) }
 {
-    let layer = fault.cause.layer() as u16;
-    let number = fault.cause.refusal().number() as u16;
-    line(heap, '!', &[layer, number, fault.line])
+    format!(in heap; "{fault}\n")
 }
 
 // What is printed of the frames of each pool.
 pub fn frames_line(heap: Global, pools: &[Pool]) -> Result<String, AllocError>
     ensures { IfOk result (λ s. string_bytes s ≡ frames_line pools.now) }
 {
-    let counts = counts_of(heap, pools)?;
-    line(heap, 'z', counts.as_slice())
-}
-
-fn counts_of(heap: Global, pools: &[Pool]) -> Result<Vec<u16>, AllocError>
-    ensures { IfOk result (λ v. v.items ≡ frame_counts pools.now) }
-{
-    let mut counts = Vec::new(heap);
-    for pool in pools {
-        counts.push(pool.count as u16)?;
-    }
-    Ok(counts)
+    format!(in heap; "{}\n", Frames { pools })
 }
 
 // The listing of a scenario file: its fault, or with no script its frames. Scripts are not run yet.
@@ -73,15 +77,12 @@ pub fn listing(heap: Global, bytes: &[u8]) -> Result<String, ListError>
     ensures law { Law bytes.now }
 {
     match read(heap, bytes) {
-        Ok(scenario) => {
-            if !scenario.script.is_empty() {
-                return Err(ListError::Script);
-            }
-            Ok(frames_line(heap, scenario.setting.layout.pools())?)
-        }
-        Err(error) => match error {
-            ReadError::Faulty(fault) => Ok(fault_line(heap, fault)?),
-            ReadError::Memory => Err(ListError::Memory),
-        },
+        Ok(scenario) if scenario.script.is_empty() => Ok(frames_line(
+            heap,
+            scenario.setting.layout.pools(),
+        )?),
+        Ok(_) => Err(ListError::Script),
+        Err(ReadError::Faulty(fault)) => Ok(fault_line(heap, fault)?),
+        Err(ReadError::Memory) => Err(ListError::Memory),
     }
 }

@@ -1,8 +1,9 @@
 // The parts of a scenario file, in their order, and the letters of each.
 ghost use Rattle.std.specs.Prelude.{◌≡◌};
-ghost use Rattle.scenario.specs.Parts.{rank_of, part_of, setup_letter, table_letter, script_letter};
+ghost use Rattle.scenario.specs.Parts.{part_of};
 
-#[derive(Clone, Copy)]
+// A part comes before another where it is less.
+#[derive(Clone, Copy, Debug, PartialEq, Eq, PartialOrd, Ord)]
 pub enum Part {
     Setup,
     Tables,
@@ -10,47 +11,16 @@ pub enum Part {
 }
 
 impl Part {
-    // The part that a line's letter belongs to.
+    // The part that a line's letter belongs to, if there is one; an error would say no more.
+    #[tactic(auto, unfolding(crate::specs::Parts::setup_letter, crate::specs::Parts::table_letter, crate::specs::Parts::script_letter))]
     pub fn of_letter(letter: char) -> Option<Part>
         ensures { result ≡ part_of letter }
     {
-        if is_setup(letter) {
-            Some(Part::Setup)
-        } else if is_table(letter) {
-            Some(Part::Tables)
-        } else if is_script(letter) {
-            Some(Part::Script)
-        } else {
-            None
+        match letter {
+            'P' | 'Q' | 'S' | 'W' => Some(Part::Setup),
+            'D' | 'H' | 'I' | 'R' | 'F' | 'N' | 'T' | 'A' => Some(Part::Tables),
+            'p' | 'f' | 'b' | 'r' | 'g' => Some(Part::Script),
+            _ => None,
         }
     }
-
-    // Where the part stands in a file.
-    pub fn rank(self) -> u8
-        ensures { result ≡ rank_of self }
-    {
-        match self {
-            Part::Setup => 1,
-            Part::Tables => 2,
-            Part::Script => 3,
-        }
-    }
-}
-
-fn is_setup(letter: char) -> bool
-    ensures { result ≡ setup_letter letter }
-{
-    matches!(letter, 'P' | 'Q' | 'S' | 'W')
-}
-
-fn is_table(letter: char) -> bool
-    ensures { result ≡ table_letter letter }
-{
-    matches!(letter, 'D' | 'H' | 'I' | 'R' | 'F' | 'N' | 'T' | 'A')
-}
-
-fn is_script(letter: char) -> bool
-    ensures { result ≡ script_letter letter }
-{
-    matches!(letter, 'p' | 'f' | 'b' | 'r' | 'g')
 }

@@ -1,8 +1,7 @@
 // Reading a scenario file: the file as a whole first, then every line in its order.
-ghost use Rattle.std.specs.Prelude.{◌≡◌, ◌+◌, ◌<◌, [], Ok, Err, MatchResult};
-ghost use Rattle.kernel.specs.Plan.{plan, Small};
+ghost use Rattle.std.specs.Prelude.{◌≡◌, ◌+◌, ◌<◌, [], Some, Ok, Err, MatchResult};
 ghost use Rattle.scenario.specs.Reading.{LineIs, page_of, blank_page};
-ghost use Rattle.scenario.specs.Files.{Whole, WholeFault, Unless, Told, file_fault};
+ghost use Rattle.scenario.specs.Files.{Whole, WholeFault, Unless, Told, file_fault, read_error_text};
 ghost use Rattle.scenario.specs.Law.{Law};
 ghost use Rattle.scenario.specs.declared.reader.ReadError.TheVariants as error;
 
@@ -10,7 +9,9 @@ use crate::draft::Draft;
 use crate::fault::{Cause, Fault, FileFault};
 use crate::script::Command;
 use crate::setting::Setting;
-use std::alloc::{AllocError, AllocFailed, Global};
+use std::alloc::{AllocFailed, Global};
+use std::error::Error;
+use std::fmt;
 use tables::tables::Tables;
 
 // A scenario that was read: a cell, and what is asked of it.
@@ -22,10 +23,31 @@ pub struct Scenario {
 }
 
 // Why there is no scenario: the file's one fault, or want of memory, which says nothing of the file.
-#[derive(Clone, Copy)]
+#[derive(Clone, Copy, Debug, PartialEq, Eq)]
 pub enum ReadError {
     Faulty(Fault),
     Memory,
+}
+
+impl fmt::Display for ReadError {
+    ghost output = { λ e. Some (read_error_text e) };
+
+    fn fmt<W: fmt::Write>(&self, f: &mut fmt::Formatter<W>) -> fmt::Result {
+        match self {
+            ReadError::Faulty(fault) => write!(f, "{fault}"),
+            ReadError::Memory => f.write_str("out of memory"),
+        }
+    }
+}
+
+impl Error for ReadError {}
+
+impl From<Fault> for ReadError {
+    ghost from_gives = { λ f r. r ≡ error.Faulty f };
+
+    fn from(fault: Fault) -> ReadError {
+        ReadError::Faulty(fault)
+    }
 }
 
 impl From<FileFault> for ReadError {
@@ -69,41 +91,39 @@ impl Reader {
 
     // Takes the next line, or answers its fault with its number.
     fn take(&mut self, bytes: &[u8]) -> Result<(), ReadError>
-        requires few { self.old.lines < 65535 }
-        requires small { Small (plan self.old.draft.setting.layout).pools }
+        requires { self.old.lines < 65535 }
         ensures count { self.new.lines ≡ self.old.lines + 1 }
         ensures line { MatchResult result (λ _. LineIs (page_of self.old.draft self.old.script) bytes.now (Ok (page_of self.new.draft self.new.script))) (λ e. Unless e (λ f. (f.line ≡ self.new.lines) × LineIs (page_of self.old.draft self.old.script) bytes.now (Err f.cause))) }
     {
         self.lines += 1;
-        let line = match self.draft.line(bytes) {
-            Ok(line) => line,
-            Err(cause) => return Err(ReadError::Faulty(Fault {
-                line: self.lines,
-                cause,
-            })),
-        };
-        match line {
-            Some(command) => Ok(self.script.push(command)?),
-            None => Ok(()),
+        let line = self.lines;
+        if let Some(command) = self
+            .draft
+            .line(bytes)
+            .map_err(|cause| Fault { line, cause })?
+        {
+            self.script.push(command)?;
         }
+        Ok(())
     }
 }
 
 // The file as a whole: at most 32,768 bytes, and if there are any the last is a line feed.
+#[tactic(auto, using(crate::proofs::Feeds::last_is))]
 fn check_whole(bytes: &[u8]) -> Result<(), FileFault>
     ensures { MatchResult result (λ _. Whole bytes.now) (λ f. WholeFault bytes.now f) }
 {
     if bytes.len() > 32768 {
         return Err(FileFault::TooLong);
     }
-    let len = bytes.len();
-    if len > 0 && bytes[len - 1] != b'\n' {
-        return Err(FileFault::Unterminated);
+    match bytes {
+        [] | [.., b'\n'] => Ok(()),
+        _ => Err(FileFault::Unterminated),
     }
-    Ok(())
 }
 
 // Reads a scenario file, or answers its one fault: the first that is found in the order of the lines.
+#[tactic(auto, using(crate::proofs::Lawful::lawful))]
 pub fn read(heap: Global, bytes: &[u8]) -> Result<Scenario, ReadError>
     ensures answer { Told bytes.now result }
     ensures law { Law bytes.now }
@@ -112,28 +132,20 @@ pub fn read(heap: Global, bytes: &[u8]) -> Result<Scenario, ReadError>
     read_lines(heap, bytes)
 }
 
-// Reads the lines of a file that is sound as a whole.
+// Reads the lines of a file that is sound as a whole. What stands behind its last line feed is no line.
 fn read_lines(heap: Global, bytes: &[u8]) -> Result<Scenario, ReadError>
     requires { Whole bytes.now }
-    ensures answer { Told bytes.now result }
-    ensures law { Law bytes.now }
+    ensures { Told bytes.now result }
 {
     let mut reader = Reader::new(heap);
-    let mut start = 0;
-    for (i, b) in bytes.iter().enumerate() {
-        if *b == b'\n' {
-            reader.take(&bytes[start..i])?;
-            start = i + 1;
+    if let Some(text) = bytes.strip_suffix(b"\n") {
+        for line in text.split(|b| *b == b'\n') {
+            reader.take(line)?;
         }
     }
-    let Reader {
-        draft,
-        script,
-        lines: _,
-    } = reader;
     Ok(Scenario {
-        setting: draft.setting,
-        tables: draft.tables,
-        script,
+        setting: reader.draft.setting,
+        tables: reader.draft.tables,
+        script: reader.script,
     })
 }

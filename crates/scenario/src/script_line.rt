@@ -1,76 +1,64 @@
 // The script part: p, f, b, r and g.
-ghost use Rattle.std.specs.Prelude.{◌≡◌, ◌+◌, ◌<◌, length, drop};
+ghost use Rattle.std.specs.Prelude.{◌≡◌, ℕ};
 ghost use Rattle.terms.specs.Calls.{Answers};
-ghost use Rattle.terms.specs.Events.{content};
-ghost use Rattle.kernel.specs.Plan.{plan, Small};
-ghost use Rattle.scenario.specs.Cell.{order};
-ghost use Rattle.scenario.specs.Lines.{script_line, event_of, object_of, field};
+ghost use Rattle.terms.specs.Entries.{entries};
+ghost use Rattle.terms.specs.Events.{Content, content};
+ghost use Rattle.kernel.specs.Plan.{plan};
+ghost use Rattle.scenario.specs.Cell.{Order, order};
+ghost use Rattle.scenario.specs.Lines.{script_line, addressed, event_of, object_of};
 
 use crate::fault::{Cause, LineFault, ScriptFault};
+use crate::line::Line;
 use crate::script::Command;
 use kernel::layout::Layout;
 use terms::event::Event;
+use terms::range::between;
 
-pub(crate) fn script_line(layout: &Layout, letter: char, numbers: &[u16]) -> Result<Command, Cause>
-    requires { Small (plan layout.now).pools }
-    ensures { Answers order (script_line (plan layout.now) letter numbers.now) result }
+pub(crate) fn script_line(layout: &Layout, line: &Line) -> Result<Command, Cause>
+    ensures { Answers order (script_line (plan layout.now) line.now.letter (entries line.now.numbers)) result }
 {
-    match (letter, numbers) {
-        ('p', [object, _, ..]) => {
-            let event = event_at(layout, numbers, 1)?;
-            let object = object_of(layout, *object)?;
+    match (line.letter, line.numbers.as_slice()) {
+        ('p', [object, signal, words @ ..]) => {
+            let (object, event) = addressed(layout, *object, *signal, words)?;
             Ok(Command::Post { object, event })
         }
-        ('f', [object, _, ..]) => {
-            let event = event_at(layout, numbers, 1)?;
-            let object = object_of(layout, *object)?;
+        ('f', [object, signal, words @ ..]) => {
+            let (object, event) = addressed(layout, *object, *signal, words)?;
             Ok(Command::PostFront { object, event })
         }
-        ('b', [_, ..]) => Ok(Command::Publish {
-            event: event_at(layout, numbers, 0)?,
+        ('b', [signal, words @ ..]) => Ok(Command::Publish {
+            event: event_of(layout, *signal, words)?,
         }),
-        ('r', [_, ..]) => Ok(Command::Recycle {
-            event: event_at(layout, numbers, 0)?,
+        ('r', [signal, words @ ..]) => Ok(Command::Recycle {
+            event: event_of(layout, *signal, words)?,
         }),
-        ('g', [times]) => Ok(Command::Dispatch { times: *times }),
+        ('g', &[times]) => Ok(Command::Dispatch { times }),
         _ => Err(LineFault::Form.into()),
     }
 }
 
-// The event whose signal is the number at that index, and whose words are the numbers behind it.
-fn event_at(layout: &Layout, numbers: &[u16], index: usize) -> Result<Event, ScriptFault>
-    requires small { Small (plan layout.now).pools }
-    requires within { index < length numbers.now }
-    ensures { Answers content (event_of (plan layout.now) (field numbers.now index) (drop (index + 1) numbers.now)) result }
+// An event and the object that it is for, whose number is looked at last.
+#[tactic(auto, unfolding(crate::specs::Lines::object_of))]
+fn addressed(layout: &Layout, object: u16, signal: u16, words: &[u16]) -> Result<(u8, Event), Cause>
+    ensures { (make : ℕ → Content → Order) → Answers (λ p. make p.0 (content p.1)) (addressed make (event_of (plan layout.now) signal words.now) (object_of (plan layout.now) object)) result }
 {
-    event_of(layout, numbers[index], &numbers[index + 1..])
+    let event = event_of(layout, signal, words)?;
+    let object = layout.object(object).ok_or(ScriptFault::Object)?;
+    Ok((object, event))
 }
 
 // An event that some pool holds: the signal first, then the count of its words.
+#[tactic(auto, unfolding(crate::specs::Lines::event_of))]
 fn event_of(layout: &Layout, signal: u16, words: &[u16]) -> Result<Event, ScriptFault>
-    requires { Small (plan layout.now).pools }
     ensures { Answers content (event_of (plan layout.now) signal words.now) result }
 {
-    if signal == 0 || signal > 64 {
-        return Err(ScriptFault::Signal);
-    }
+    let signal = between(1, signal, 64).ok_or(ScriptFault::Signal)?;
     if !layout.holds(words.len()) {
         return Err(ScriptFault::Words);
     }
-    let mut event = Event::new(signal as u8);
+    let mut event = Event::new(signal);
     for word in words {
-        let Ok(()) = event.push(*word as u32) else {
-            return Err(ScriptFault::Words);
-        };
+        event.push(u32::from(*word)).unwrap();
     }
     Ok(event)
-}
-
-fn object_of(layout: &Layout, object: u16) -> Result<u8, ScriptFault>
-    ensures { Answers (λ o. o) (object_of (plan layout.now) object) result }
-{
-    if object == 0 || object > layout.objects() as u16 {
-        return Err(ScriptFault::Object);
-    }
-    Ok(object as u8)
 }

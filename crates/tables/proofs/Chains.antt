@@ -1,10 +1,11 @@
 -- Chains of parents in a chart, which stay as they were while the chart grows or a state's initial target changes.
 use Rattle.std.proofs.Common.{◌≡◌, ℕ, zero, suc, ◌<◌, ◌≤◌, List, [], ◌∷◌, ◌++◌, length, Some, None, Option, refl, ap, ◌∙◌, arith}
+use Rattle.std.proofs.lemmas.Option.{IfSome_then}
 use Rattle.terms.specs.Entries.{numbered, changed}
 use Rattle.terms.proofs.Held.{numbered_push}
 use Rattle.terms.proofs.Numbered.{numbered_some}
 use Rattle.tables.specs.Drawing.{parent_in, parent_of, up, descends, starting_at}
-use Rattle.tables.specs.Limits.{StateWithin, StatesWithin}
+use Rattle.tables.specs.Limits.{From1To, StateWithin, StatesWithin}
 use Rattle.tables.specs.declared.chart.State.{State}
 
 parent_low : (o : Option State) (n : ℕ) → ((s : State) → o ≡ Some s → s.parent < n) → parent_in o ≤ n
@@ -26,9 +27,14 @@ module _ (sends : ℕ) (ss ts : List State) (within : StatesWithin sends ss) (sa
   pub state_still : (more : ℕ) → sends ≤ more → length ss ≤ length ts → (n : ℕ) (s : State) → numbered ss n ≡ Some s → StateWithin more ts n s
   state_still more grown longer n s is =
       let w = within n s is in
-      let chain = up_same 4 n (numbered_some ss n s is).1 in
-      let initial = descends_same s.initial n in
-      grind arith
+      let kept : (send : ℕ) → From1To sends send → From1To more send = λ send is. (is.0, omega (arith, is.1)) in
+      record {
+        parent = w.parent;
+        chain = up_same 4 n (numbered_some ss n s is).1 ∙ w.chain;
+        entry = IfSome_then s.entry w.entry kept;
+        exit = IfSome_then s.exit w.exit kept;
+        initial = IfSome_then s.initial w.initial (λ t inside. ((inside.0.0, omega (arith, inside.0.1)), descends_same t n inside.0.1 ∙ inside.1));
+      }
 
 -- a state more changes no parent
 pub parent_push : (ss : List State) (x : State) (m : ℕ) → m ≤ length ss → parent_of (ss ++ x ∷ []) m ≡ parent_of ss m

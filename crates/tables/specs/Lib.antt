@@ -1,2 +1,4 @@
 pub mod Drawing
 pub mod Limits
+pub mod Props
+pub mod Tables

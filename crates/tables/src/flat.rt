@@ -2,13 +2,13 @@
 use terms::send::Send;
 use terms::table::Table;
 
-#[derive(Clone, Copy)]
+#[derive(Clone, Copy, Debug, PartialEq, Eq)]
 pub enum FlatAction {
-    Move { next: u8, send: u8 },
+    Move { next: u8, send: Option<u8> },
     Defer,
 }
 
-#[derive(Clone, Copy)]
+#[derive(Clone, Copy, Debug, PartialEq, Eq)]
 pub struct FlatRow {
     pub state: u8,
     pub signal: u8,

@@ -3,11 +3,11 @@ use terms::send::Send;
 use terms::slots::Slots;
 use terms::table::Table;
 
-// What a transition takes from each place and gives to it; send 0 is none.
-#[derive(Clone, Copy)]
+// What a transition takes from each place and gives to it, and its send, if it has one.
+#[derive(Clone, Copy, Debug, PartialEq, Eq)]
 pub struct Transition {
     pub signal: u8,
-    pub send: u8,
+    pub send: Option<u8>,
     pub takes: Slots<u8, 8>,
     pub gives: Slots<u8, 8>,
 }

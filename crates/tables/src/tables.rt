@@ -1,15 +1,18 @@
 // The tables of a cell's objects, and the sends that they share. Each call adds an entry or replaces a part, or
 // refuses and leaves everything as it was: a full table first, then any value out of range or not declared.
+#![tactic(auto, unfolding(crate::specs::Drawing::add_send, crate::specs::Drawing::add_state, crate::specs::Drawing::set_initial, crate::specs::Drawing::add_row, crate::specs::Drawing::add_flat_row, crate::specs::Drawing::add_transition, crate::specs::Drawing::set_arc, crate::specs::Drawing::state_of, crate::specs::Drawing::row_of, crate::specs::Drawing::flat_row_of, crate::specs::Drawing::transition_of, crate::specs::Drawing::send_of))]
+
 ghost use Rattle.std.specs.Prelude.{◌≡◌};
-ghost use Rattle.std.specs.Option.{option_map};
 ghost use Rattle.terms.specs.Calls.{Follows};
 ghost use Rattle.terms.specs.Entries.{entries};
-ghost use Rattle.tables.specs.Drawing.{drawing, undrawn, chart_in, chart_drawing, flat_in, flat_drawing, net_in, net_drawing, firing, blank_firing, send_of, send_number, parent_of, descends, state_of, action_of, row_of, flat_action_of, flat_row_of, transition_of, add_send, add_state, set_initial, add_row, add_flat_row, set_marks, add_transition, set_arc};
+ghost use Rattle.tables.specs.Drawing.{drawn, undrawn, chart_in, chart_drawing, flat_in, flat_drawing, net_in, net_drawing, blank_transition, send_of, send_number, state_number, parent_of, descends, state_of, action_of, row_of, flat_action_of, flat_row_of, transition_of, add_send, add_state, set_initial, add_row, add_flat_row, set_marks, add_transition, set_arc};
 ghost use Rattle.tables.specs.Limits.{DrawingWithin, ChartWithin};
+ghost use Rattle.tables.specs.Props.{DrawingWithin-prop};
 
-use crate::chart::{Action, Chart, Guard, Row, State, parent_of};
+use crate::chart::{Action, Chart, Guard, Row, RowNumbers, State, parent_of};
 use crate::flat::{Flat, FlatAction, FlatRow};
 use crate::net::{Net, Transition};
+use terms::range::between;
 use terms::send::Send;
 use terms::slots::Slots;
 use terms::table::{Table, TableFault};
@@ -22,18 +25,22 @@ pub struct Tables {
     flat_rows: Table<FlatRow, 64>,
     marks: Slots<u8, 8>,
     transitions: Table<Transition, 8>,
+
+    pub ghost within: { DrawingWithin (drawn sends states rows flat_rows marks transitions) } by { DrawingWithin-prop (drawn sends states rows flat_rows marks transitions) },
 }
 
 impl Tables {
+    ghost use Rattle.tables.specs.Tables.{drawing};
+
     // Nothing declared yet, and no marks.
     pub fn new() -> Tables
         ensures { drawing result ≡ undrawn }
     {
         let state = State {
             parent: 0,
-            entry: 0,
-            exit: 0,
-            initial: 0,
+            entry: None,
+            exit: None,
+            initial: None,
         };
         let row = Row {
             state: 0,
@@ -52,14 +59,14 @@ impl Tables {
             rows: Table::new(row),
             flat_rows: Table::new(flat_row),
             marks: Slots::new(0),
-            transitions: Table::new(blank_transition(0, 0)),
+            transitions: Table::new(blank_transition(0, None)),
         }
     }
 
     // What describes the hierarchical object.
     pub fn chart(&self) -> Chart
         ensures part { chart_drawing result ≡ chart_in (drawing self.now) }
-        ensures limits { DrawingWithin (drawing self.now) → ChartWithin (chart_drawing result) }
+        ensures limits { ChartWithin (chart_drawing result) }
     {
         Chart {
             states: self.states,
@@ -114,36 +121,21 @@ impl Tables {
     pub fn set_initial(&mut self, state: u16, target: u16) -> Result<(), TableFault>
         ensures { Follows (set_initial (drawing self.old) state target) result (drawing self.old) (drawing self.new) }
     {
-        let Some(found) = self.states.get(state as usize) else {
-            return Err(TableFault::Value);
-        };
+        let found = self.states.get(state as usize).ok_or(TableFault::Value)?;
         if target as usize > self.states.len() || !self.descends(target, state) {
             return Err(TableFault::Value);
         }
-        self.states.replace(
-            state as usize,
-            State {
-                initial: target as u8,
-                ..found
-            },
-        );
+        let initial = Some(target as u8);
+        self.states
+            .replace(state as usize, State { initial, ..found });
         Ok(())
     }
 
     // The next row of the chart.
-    pub fn add_row(
-        &mut self,
-        state: u16,
-        signal: u16,
-        guard: u16,
-        value: u16,
-        kind: u16,
-        target: u16,
-        send: u16,
-    ) -> Result<(), TableFault>
-        ensures { Follows (add_row (drawing self.old) state signal guard value kind target send) result (drawing self.old) (drawing self.new) }
+    pub fn add_row(&mut self, numbers: RowNumbers) -> Result<(), TableFault>
+        ensures { Follows (add_row (drawing self.old) numbers) result (drawing self.old) (drawing self.new) }
     {
-        let row = self.row_of(state, signal, guard, value, kind, target, send);
+        let row = self.row_of(numbers);
         self.rows.add(row)
     }
 
@@ -166,10 +158,9 @@ impl Tables {
     pub fn set_marks(&mut self, place: u16, marks: u16) -> Result<(), TableFault>
         ensures { Follows (set_marks (drawing self.old) place marks) result (drawing self.old) (drawing self.new) }
     {
-        if place == 0 || place > 8 || marks > 255 {
-            return Err(TableFault::Value);
-        }
-        self.marks.set(place as usize, marks as u8);
+        let place = between(1, place, 8).ok_or(TableFault::Value)?;
+        let marks = between(0, marks, 255).ok_or(TableFault::Value)?;
+        self.marks.set(place as usize, marks);
         Ok(())
     }
 
@@ -191,10 +182,11 @@ impl Tables {
     ) -> Result<(), TableFault>
         ensures { Follows (set_arc (drawing self.old) transition place take give) result (drawing self.old) (drawing self.new) }
     {
-        let Some(mut found) = self.transitions.get(transition as usize) else {
-            return Err(TableFault::Value);
-        };
-        if place == 0 || place > 8 || take > 255 || give > 255 {
+        let mut found = self
+            .transitions
+            .get(transition as usize)
+            .ok_or(TableFault::Value)?;
+        if !matches!((place, take, give), (1..=8, 0..=255, 0..=255)) {
             return Err(TableFault::Value);
         }
         found.takes.set(place as usize, take as u8);
@@ -207,19 +199,14 @@ impl Tables {
     fn state_of(&self, parent: u16, entry: u16, exit: u16) -> Option<State>
         ensures { result ≡ state_of (drawing self.now) parent entry exit }
     {
-        if parent as usize > self.states.len() {
-            return None;
-        }
         if self.parent(self.parent(self.parent(parent))) != 0 {
             return None;
         }
-        let entry = self.send_number(entry)?;
-        let exit = self.send_number(exit)?;
         Some(State {
-            parent: parent as u8,
-            entry,
-            exit,
-            initial: 0,
+            parent: between(0, parent, self.states.len() as u8)?,
+            entry: self.send_number(entry).ok()?,
+            exit: self.send_number(exit).ok()?,
+            initial: None,
         })
     }
 
@@ -240,29 +227,15 @@ impl Tables {
         first == above || second == above || third == above
     }
 
-    fn row_of(
-        &self,
-        state: u16,
-        signal: u16,
-        guard: u16,
-        value: u16,
-        kind: u16,
-        target: u16,
-        send: u16,
-    ) -> Option<Row>
-        ensures { result ≡ row_of (drawing self.now) state signal guard value kind target send }
+    // A row of a declared state and a signal.
+    fn row_of(&self, numbers: RowNumbers) -> Option<Row>
+        ensures { result ≡ row_of (drawing self.now) numbers }
     {
-        let states = self.states.len();
-        if state == 0 || state as usize > states || signal == 0 || signal > 64 {
-            return None;
-        }
-        let guard = Guard::from_numbers(guard, value)?;
-        let action = self.action_of(kind, target, send)?;
         Some(Row {
-            state: state as u8,
-            signal: signal as u8,
-            guard,
-            action,
+            state: self.state_number(numbers.state)?,
+            signal: between(1, numbers.signal, 64)?,
+            guard: Guard::from_numbers(numbers.guard, numbers.value)?,
+            action: self.action_of(numbers.kind, numbers.target, numbers.send)?,
         })
     }
 
@@ -270,18 +243,19 @@ impl Tables {
     fn action_of(&self, kind: u16, target: u16, send: u16) -> Option<Action>
         ensures { result ≡ action_of (drawing self.now) kind target send }
     {
-        let send = self.send_number(send)?;
+        let send = self.send_number(send).ok()?;
         match (kind, target, send) {
-            (0, 1.., send) if target as usize <= self.states.len() => Some(Action::Move {
-                target: target as u8,
+            (0, target, send) => Some(Action::Move {
+                target: self.state_number(target)?,
                 send,
             }),
             (1, 0, send) => Some(Action::Stay { send }),
-            (2, 0, 0) => Some(Action::Defer),
+            (2, 0, None) => Some(Action::Defer),
             _ => None,
         }
     }
 
+    // A row of a state from 1 to 16 and a signal.
     fn flat_row_of(
         &self,
         state: u16,
@@ -292,55 +266,53 @@ impl Tables {
     ) -> Option<FlatRow>
         ensures { result ≡ flat_row_of (drawing self.now) state signal kind next send }
     {
-        if state == 0 || state > 16 || signal == 0 || signal > 64 {
-            return None;
-        }
-        let action = self.flat_action_of(kind, next, send)?;
         Some(FlatRow {
-            state: state as u8,
-            signal: signal as u8,
-            action,
+            state: between(1, state, 16)?,
+            signal: between(1, signal, 64)?,
+            action: self.flat_action_of(kind, next, send)?,
         })
     }
 
+    // What a kind of flat row does; a deferral has zeros.
     fn flat_action_of(&self, kind: u16, next: u16, send: u16) -> Option<FlatAction>
         ensures { result ≡ flat_action_of (drawing self.now) kind next send }
     {
-        let send = self.send_number(send)?;
+        let send = self.send_number(send).ok()?;
         match (kind, next, send) {
-            (0, 1..=16, send) => Some(FlatAction::Move {
-                next: next as u8,
+            (0, next, send) => Some(FlatAction::Move {
+                next: between(1, next, 16)?,
                 send,
             }),
-            (2, 0, 0) => Some(FlatAction::Defer),
+            (2, 0, None) => Some(FlatAction::Defer),
             _ => None,
         }
     }
 
+    // A transition on a signal, with no takes and gives yet.
     fn transition_of(&self, signal: u16, send: u16) -> Option<Transition>
-        ensures { option_map firing result ≡ transition_of (drawing self.now) signal send }
+        ensures { result ≡ transition_of (drawing self.now) signal send }
     {
-        let send = self.send_number(send)?;
-        if signal == 0 || signal > 64 {
-            return None;
-        }
-        Some(blank_transition(signal as u8, send))
+        Some(blank_transition(between(1, signal, 64)?, self.send_number(send).ok()?))
     }
 
-    // A send's number, or 0 for none.
-    fn send_number(&self, send: u16) -> Option<u8>
+    // The send that a number names: 0 names none, and another has to be declared.
+    fn send_number(&self, send: u16) -> Result<Option<u8>, TableFault>
         ensures { result ≡ send_number (drawing self.now) send }
     {
-        if send as usize <= self.sends.len() {
-            Some(send as u8)
-        } else {
-            None
-        }
+        let number = between(0, send, self.sends.len() as u8).ok_or(TableFault::Value)?;
+        Ok((number != 0).then_some(number))
+    }
+
+    // The number of a declared state.
+    fn state_number(&self, state: u16) -> Option<u8>
+        ensures { result ≡ state_number (drawing self.now) state }
+    {
+        between(1, state, self.states.len() as u8)
     }
 }
 
-fn blank_transition(signal: u8, send: u8) -> Transition
-    ensures { firing result ≡ blank_firing signal send }
+fn blank_transition(signal: u8, send: Option<u8>) -> Transition
+    ensures { result ≡ blank_transition signal send }
 {
     Transition {
         signal,

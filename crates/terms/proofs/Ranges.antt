@@ -1,6 +1,6 @@
 -- Ranges as facts and as tests.
-use Rattle.std.proofs.Common.{◌≡◌, ℕ, ◌≤◌, true, false, leb, ⊎_elim}
-use Rattle.std.proofs.lemmas.Bool.{le-leb, leb-true, and_from, and_parts, cases_Bool}
+use Rattle.std.proofs.Common.{◌≡◌, ℕ, ◌≤◌, true, leb}
+use Rattle.std.proofs.lemmas.Bool.{le-leb, leb-true, and_from, and_parts}
 use Rattle.terms.specs.Ranges.{between}
 
 pub between_true : (low n high : ℕ) → low ≤ n → n ≤ high → between low n high ≡ true
@@ -10,7 +10,3 @@ pub between_bounds : (low n high : ℕ) → between low n high ≡ true → (low
 between_bounds low n high t =
     let both = and_parts (leb low n) (leb n high) t in
     (leb-true low n both.0, leb-true n high both.1)
-
-pub between_false : (low n high : ℕ) → (low ≤ n → n ≤ high → ⊥) → between low n high ≡ false
-between_false low n high out =
-    ⊎_elim (λ t. let h = between_bounds low n high t in absurd (out h.0 h.1)) (λ f. f) (cases_Bool (between low n high))

@@ -4,6 +4,7 @@
 pub mod event;
 mod numbers;
 pub mod object_set;
+pub mod range;
 pub mod refusal;
 pub mod send;
 pub mod slots;

@@ -1,10 +1,21 @@
 // A set of objects: an 8-bit number in which object o counts 2^(o - 1).
-ghost use Rattle.std.specs.Prelude.{◌≡◌};
-ghost use Rattle.terms.specs.Sets.{weight, member, joins, bits_of};
+ghost use Rattle.std.specs.Prelude.{◌≡◌, ℕ};
+ghost use Rattle.terms.specs.Sets.{weight, member, joins};
 
-#[derive(Clone, Copy)]
+use std::marker::Model;
+
+#[derive(Clone, Copy, Debug, PartialEq, Eq)]
 pub struct ObjectSet {
     bits: u8,
+}
+
+// A clause sees the number.
+impl Model for ObjectSet {
+    ghost Value = { ℕ };
+
+    ghost view = { λ s. s.bits };
+
+    ghost inverse = { λ n. record { bits = n } };
 }
 
 impl ObjectSet {
@@ -19,18 +30,17 @@ impl ObjectSet {
         }
     }
 
-    // The set as a number.
+    // The set as a number, by the name that sets of bits give it.
     pub fn bits(self) -> u8
-        ensures { result ≡ bits_of self }
+        ensures { result ≡ self }
     {
-        let ObjectSet { bits } = self;
-        bits
+        self.bits
     }
 
     pub fn contains(self, object: u8) -> bool
-        ensures { result ≡ member object self.bits }
+        ensures { result ≡ member object self }
     {
-        is_member(object, self.bits)
+        matches!(object, 1..=8) && (self.bits >> (object - 1)) & 1 == 1
     }
 }
 
@@ -38,14 +48,8 @@ impl ObjectSet {
 fn weight_of(object: u8) -> u8
     ensures { result ≡ weight object }
 {
-    if object == 0 || object > 8 {
-        return 0;
+    match object {
+        1..=8 => 1 << (object - 1),
+        _ => 0,
     }
-    1 << (object - 1)
-}
-
-fn is_member(object: u8, bits: u8) -> bool
-    ensures { result ≡ member object bits }
-{
-    object != 0 && object <= 8 && (bits >> (object - 1)) & 1 == 1
 }

@@ -2,42 +2,28 @@
 ghost use Rattle.std.specs.Prelude.{◌≡◌};
 ghost use Rattle.terms.specs.Refusals.{number_of};
 
-#[derive(Clone, Copy)]
+#[derive(Clone, Copy, Debug, PartialEq, Eq)]
 pub enum Refusal {
-    Words,
-    Signal,
-    Object,
-    Pool,
-    Length,
-    File,
-    Form,
-    Value,
-    Full,
-    NoFrame,
-    NoPlace,
-    NotLive,
-    NothingDeferred,
+    Words = 1,
+    Signal = 2,
+    Object = 3,
+    Pool = 4,
+    Length = 5,
+    File = 6,
+    Form = 7,
+    Value = 8,
+    Full = 9,
+    NoFrame = 21,
+    NoPlace = 22,
+    NotLive = 23,
+    NothingDeferred = 24,
 }
 
-impl Refusal {
-    // The number by which a listing shows the refusal.
-    pub fn number(self) -> u8
-        ensures { result ≡ number_of self }
-    {
-        match self {
-            Refusal::Words => 1,
-            Refusal::Signal => 2,
-            Refusal::Object => 3,
-            Refusal::Pool => 4,
-            Refusal::Length => 5,
-            Refusal::File => 6,
-            Refusal::Form => 7,
-            Refusal::Value => 8,
-            Refusal::Full => 9,
-            Refusal::NoFrame => 21,
-            Refusal::NoPlace => 22,
-            Refusal::NotLive => 23,
-            Refusal::NothingDeferred => 24,
-        }
+// The number by which a listing shows the refusal.
+impl From<Refusal> for u8 {
+    ghost from_gives = { λ refusal number. number ≡ number_of refusal };
+
+    fn from(refusal: Refusal) -> u8 {
+        refusal as u8
     }
 }

@@ -1,28 +1,21 @@
-use Rattle.std.proofs.Common.{length, get_or, sym, ap, ◌∙◌, arith}
-use Rattle.std.proofs.lemmas.List.{length_push}
-use Rattle.terms.specs.Entries.{entries}
-use Rattle.terms.proofs.Held.{few_entries}
-use Rattle.terms.proofs.Added.{added_with_room}
-use Rattle.objects.specs.Charts.{below}
-use Rattle.objects.specs.Walks.{below_more, below_here, below_all}
+use Rattle.std.proofs.Common.{◌≡◌, ◌≤◌, refl, ℕ, Bool, List, Some, None, length, take, cond, position, unwrap_or, eqb, ltb, ap, ◌∙◌, rules, tests, ⊎_elim, arith}
+use Rattle.std.proofs.lemmas.Bool.{cases_lt, lt-ltb, le-ltb}
+use Rattle.std.proofs.lemmas.Iterator.{YieldsList-from_slice}
+use Rattle.std.proofs.lemmas.Iterator.Search.{position_from_yields_List}
+use Rattle.std.proofs.lemmas.List.Sums.{prefix_len-le-length}
+use Rattle.std.specs.List.{before_first, position_or_len}
 use Rattle.objects.proofs.ways.below.Goals as goal
 
-pub loop-state-preserved : goal.loop-state-preserved
-loop-state-preserved c =
-    let xs = c.as_slice-state-items.result.now in
-    let here = get_or xs c.loop-state.state-index 0 in
-    let inner = entries c.loop-state.inner in
-    let more = entries c.push.new.self in
-    let long = ap length c.as_slice-state-items.ensures in
-    let few = few_entries c.args.chain in
-    let new = added_with_room 4 inner more here c.push.result c.push.ensures (omega (arith, c.loop-state.invariant.1)) in
-    let longer = ap length new ∙ length_push inner here in
-    (below_more c.args.base xs inner more c.loop-state.state-index c.loop-state-test.true c.if-state-base.false new ∙ c.loop-state.invariant.0, omega (arith, c.loop-state.invariant.1))
+-- the first place that passes, or the length, ends what stands before it
+at_most : (n l : ℕ) → n ≤ l → unwrap_or (cond (ltb n l) (Some n) None) l ≡ n
+at_most n l low = ⊎_elim (λ lt. rw (lt-ltb n l lt) refl) (λ le. rw (le-ltb n l le) (omega arith)) (cases_lt n l)
 
-pub returns-after-loop-state : goal.returns-after-loop-state
-returns-after-loop-state c =
-    sym (below_all c.args.base c.as_slice-state-items.result.now (entries c.loop-state.inner) c.loop-state.state-index c.loop-state-test.false) ∙ c.loop-state.invariant.0 ∙ ap (below c.args.base) c.as_slice-state-items.ensures
+ended : (p : ℕ → Bool) (xs : List ℕ) → take (unwrap_or (position p xs) (length xs)) xs ≡ before_first p xs
+ended p xs = ap (λ (n : ℕ). take n xs) (at_most (position_or_len p xs) (length xs) (prefix_len-le-length _ xs))
 
-pub returns-then-state-base : goal.returns-then-state-base
-returns-then-state-base c =
-    sym (below_here c.args.base c.as_slice-state-items.result.now (entries c.loop-state.inner) c.loop-state.state-index c.loop-state-test.true c.if-state-base.true) ∙ c.loop-state.invariant.0 ∙ ap (below c.args.base) c.as_slice-state-items.ensures
+pub returns : goal.returns
+returns c =
+    let test : ℕ → Bool = λ state. eqb state c.args.base in
+    let xs = c.args.chain.now in
+    let at : c.position.result ≡ position test xs = position_from_yields_List test _ _ c.position.result c.position.ensures.ran (YieldsList-from_slice xs cc) (λ x b q k. search (rules, tests)) in
+    ap (λ (n : ℕ). take n xs) (c.unwrap_or-end.ensures ∙ ap (λ o. unwrap_or o (length xs)) at) ∙ ended test xs
