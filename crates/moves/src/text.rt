@@ -3,7 +3,7 @@ use std::fmt;
 use terms::send::Send;
 
 // The state that an object is in: the marks of a net, or the number of a state.
-#[derive(Drop)]
+#[derive(Clone, Copy, Debug, PartialEq, Eq)]
 pub(crate) enum Standing<'a> {
     Marks(&'a [u8]),
     State(u8),
@@ -26,7 +26,7 @@ impl fmt::Display for Standing<'_> {
 }
 
 // What an object sends, in order, behind a bar.
-#[derive(Drop)]
+#[derive(Clone, Copy, Debug, PartialEq, Eq)]
 pub(crate) struct Sent<'a>(pub(crate) &'a [Send]);
 
 impl fmt::Display for Sent<'_> {
