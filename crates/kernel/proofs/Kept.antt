@@ -6,6 +6,7 @@ use Rattle.std.proofs.lemmas.List.{length_push}
 use Rattle.std.proofs.lemmas.List.Sums.{sum_by_push}
 use Rattle.std.proofs.lemmas.Bool.Decides.{nat_tests}
 use Rattle.terms.specs.Sets.{weight, joins}
+use Rattle.terms.specs.declared.object_set.ObjectSet.{ObjectSet}
 use Rattle.terms.proofs.Held.{length-replaced, length-changed, all_replaced, all_changed}
 use Rattle.terms.proofs.Members.{weight_in}
 use Rattle.kernel.specs.Limits.{PlanWithin, PoolWithin, Rising, LengthsWithin, Among}
@@ -50,9 +51,9 @@ pub objects_kept_by_lengths : (p q : Plan) (object queue deferral : ℕ) → set
 objects_kept_by_lengths p q object queue deferral is = grind (arith, nat_tests)
 
 -- an object from 1 to n joins a set of such objects
-joins_among : (n o : ℕ) → 1 ≤ o → o ≤ n → n ≤ 8 → (s : ℕ) → Among n s → Among n (joins o s)
+joins_among : (n o : ℕ) → 1 ≤ o → o ≤ n → n ≤ 8 → (s : ObjectSet) → Among n s → Among n (joins o s)
 joins_among n o least most few s within =
-    or_lt n s (weight o) within (rw (weight_in o least (omega arith)) (pow_below (o - 1) n (omega arith)))
+    or_lt n s.bits (weight o) within (rw (weight_in o least (omega arith)) (pow_below (o - 1) n (omega arith)))
 
 pub subscribed_kept : (p q : Plan) (object signal : ℕ) → subscribed p object signal ≡ Ok q → PlanWithin p → PlanWithin q
 subscribed_kept p q object signal is w =

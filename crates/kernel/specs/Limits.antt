@@ -27,7 +27,7 @@ pub record LengthsWithin (l : Lengths) : Type 0 where
 
 -- no other object than 1 to n is in the set
 abbrev pub Among : ℕ → ObjectSet → Type 0
-Among n s = s < 2 ^ n
+Among n s = s.bits < 2 ^ n
 
 pub record PlanWithin (p : Plan) : Type 0 where
   pub objects : p.objects ≤ 8

@@ -1,7 +1,7 @@
 -- The set-up of a kernel, and what each set-up call makes of it.
 use Rattle.std.specs.Prelude.{ℕ, Bool, cond, ◌&&◌, List, [], ◌∷◌, ◌++◌, length, replicate, Some, None, Ok, Err, Option, Result, ◌==◌, nat_le, nat_lt}
 use Rattle.terms.specs.declared.object_set.ObjectSet.{ObjectSet}
-use Rattle.terms.specs.Entries.{entries, replaced, changed}
+use Rattle.terms.specs.Entries.{entries, values, replaced, changed}
 use Rattle.terms.specs.Ranges.{between}
 use Rattle.terms.specs.Sets.{joins}
 use Rattle.kernel.specs.Pools.{next_pool}
@@ -21,11 +21,11 @@ pub record Plan : Type 0 where
   pub subscribers : List ObjectSet
 
 abbrev pub plan : Layout → Plan
-plan l = record { objects = l.objects; pools = entries l.pools; lengths = l.lengths; subscribers = l.subscribers }
+plan l = record { objects = l.objects; pools = entries l.pools; lengths = values l.lengths; subscribers = values l.subscribers }
 
 -- before any set-up call: queues of four places, no deferral
 abbrev pub blank : ℕ → Plan
-blank n = record { objects = n; pools = []; lengths = replicate 8 (record { queue = 4; deferral = 0 }); subscribers = replicate 64 0 }
+blank n = record { objects = n; pools = []; lengths = replicate 8 (record { queue = 4; deferral = 0 }); subscribers = replicate 64 (record { bits = 0 }) }
 
 -- at most three pools: a fourth is refused as a pool outside the limits is
 abbrev pub with_next : Plan → Option the-pool.Pool → Result Plan SetupFault

@@ -1,6 +1,6 @@
 // What is set up before a kernel opens: pools of frames, the lengths of the objects' queues, and who hears which
 // signal. A refused call leaves everything as it was.
-ghost use Rattle.std.specs.Prelude.{◌≡◌, ◌≤◌, length, min, IsTrue};
+ghost use Rattle.std.specs.Prelude.{◌≡◌, ◌≤◌, min, IsTrue};
 ghost use Rattle.terms.specs.Calls.{Follows};
 ghost use Rattle.terms.specs.Entries.{entries};
 ghost use Rattle.kernel.specs.Pools.{total, largest, some_holds, next_pool, Small, Small-prop};
@@ -25,8 +25,7 @@ pub struct Lengths {
     pub deferral: u8,
 }
 
-// At most eight objects; no pool's frames hold more than eight words, and there are at most 64 frames; eight queues and
-// 64 signals.
+// At most eight objects; no pool's frames hold more than eight words, and there are at most 64 frames.
 #[derive(Clone, Copy)]
 pub struct Layout {
     objects: u8,
@@ -36,8 +35,6 @@ pub struct Layout {
     ghost counted: { objects ≤ 8 },
     ghost small: { Small (entries pools) } by { Small-prop (entries pools) },
     ghost few: { total (entries pools) ≤ 64 },
-    ghost queues: { length lengths ≡ 8 },
-    ghost signals: { length subscribers ≡ 64 },
 }
 
 impl Layout {

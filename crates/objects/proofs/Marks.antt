@@ -4,14 +4,14 @@ use Rattle.std.proofs.lemmas.List.{take_more_set, take_all, length_push}
 use Rattle.std.proofs.lemmas.Bool.{cases_eq}
 use Rattle.std.proofs.lemmas.Bool.Decides.{nat_tests}
 use Rattle.terms.proofs.Held.{numbered_push, numbered_last}
-use Rattle.terms.specs.Entries.{numbered, replaced}
+use Rattle.terms.specs.Entries.{numbered, values, replaced}
 use Rattle.tables.specs.declared.net.Transition.{Transition}
 use Rattle.tables.specs.Limits.{From1To}
 use Rattle.objects.specs.Nets.{at_place, place_after, with_place, marks_after, fired, Changes, Blocked}
 
 -- the marks of one place after a transition
 abbrev pub after : List ℕ → Transition → ℕ → Option ℕ
-after marks t place = place_after (at_place marks place) (at_place t.takes place) (at_place t.gives place)
+after marks t place = place_after (at_place marks place) (at_place (values t.takes) place) (at_place (values t.gives) place)
 
 blocked_place : (o : Option (List ℕ)) → with_place o None ≡ None
 blocked_place None = refl
@@ -102,12 +102,12 @@ module _ (marks : List ℕ) (t : Transition) where
   unfolding fired
   blocked out =
       let b = some_blocked 8 out in
-      record { place = suc b.0; within = (omega arith, omega arith); blocked = not_changed (at_place marks (suc b.0)) (at_place t.takes (suc b.0)) (at_place t.gives (suc b.0)) b.2 }
+      record { place = suc b.0; within = (omega arith, omega arith); blocked = not_changed (at_place marks (suc b.0)) (at_place (values t.takes) (suc b.0)) (at_place (values t.gives) (suc b.0)) b.2 }
 
-  pub changes : (ms : List ℕ) → fired marks t ≡ Some ms → (n : ℕ) → From1To 8 n → Changes (at_place marks n) (at_place t.takes n) (at_place t.gives n) (at_place ms n)
+  pub changes : (ms : List ℕ) → fired marks t ≡ Some ms → (n : ℕ) → From1To 8 n → Changes (at_place marks n) (at_place (values t.takes) n) (at_place (values t.gives) n) (at_place ms n)
   unfolding fired
   changes ms is zero within = absurd (omega arith)
-  changes ms is (suc k) within = changed (at_place marks (suc k)) (at_place t.takes (suc k)) (at_place t.gives (suc k)) (at_place ms (suc k)) (at_each 8 ms k is (omega arith))
+  changes ms is (suc k) within = changed (at_place marks (suc k)) (at_place (values t.takes) (suc k)) (at_place (values t.gives) (suc k)) (at_place ms (suc k)) (at_each 8 ms k is (omega arith))
 
   pub eight : (ms : List ℕ) → fired marks t ≡ Some ms → length ms ≡ 8
   unfolding fired

@@ -2,8 +2,9 @@
 use Rattle.std.specs.Prelude.{◌≡◌, ℕ, zero, suc, ◌+◌, ◌-◌, ◌<◌, ◌≤◌, Bool, true, false, cond, ◌&&◌, ◌⊎◌, List, [], ◌∷◌, ◌++◌, length, Some, None, Option, ◌==◌, ◌≢◌, nat_le}
 use Rattle.std.specs.Option.{unwrap_or, option_map}
 use Rattle.std.specs.List.{AllByRecursion, list_any}
-use Rattle.terms.specs.Entries.{numbered}
+use Rattle.terms.specs.Entries.{numbered, values}
 use Rattle.terms.specs.Events.{Content}
+use Rattle.terms.specs.declared.slots.Slots.{Slots}
 use Rattle.terms.specs.declared.send.Send.{Send}
 use Rattle.terms.specs.declared.send.Send.TheVariants.{Recall}
 use Rattle.objects.specs.Crews.{Response, Rule, passing}
@@ -31,7 +32,7 @@ with_place (Some ms) (Some m) = Some (ms ++ m ∷ [])
 -- the marks of the first n places after a transition, if each of them lets it fire
 abbrev pub marks_after : ℕ → List ℕ → Transition → Option (List ℕ)
 marks_after zero marks t = Some []
-marks_after (suc n) marks t = with_place (marks_after n marks t) (place_after (at_place marks (suc n)) (at_place t.takes (suc n)) (at_place t.gives (suc n)))
+marks_after (suc n) marks t = with_place (marks_after n marks t) (place_after (at_place marks (suc n)) (at_place (values t.takes) (suc n)) (at_place (values t.gives) (suc n)))
 
 -- the marks of the eight places after a transition, if it is enabled
 unfoldable pub fired : List ℕ → Transition → Option (List ℕ)
@@ -43,6 +44,10 @@ of_signal signal t = t.signal == signal
 -- a transition and the marks after it fired, if it has the signal and is enabled
 abbrev pub fires : ℕ → List ℕ → Transition → Option (Transition × List ℕ)
 fires signal marks t = cond (of_signal signal t) (option_map (λ ms. (t, ms)) (fired marks t)) None
+
+-- a transition and the marks after it, of the slots that keep them
+abbrev pub shown : Transition × Slots ℕ 8 → Transition × List ℕ
+shown (t, marks) = (t, values marks)
 
 -- the verdict where no transition is enabled, by whether there is one of the signal
 abbrev pub unfired : Bool → Verdict
@@ -67,7 +72,7 @@ pub record Changes (before take give after : ℕ) : Type 0 where
 pub record Blocked (marks : List ℕ) (t : Transition) : Type 0 where
   pub place : ℕ
   pub within : From1To 8 place
-  pub blocked : (at_place marks place < at_place t.takes place) ⊎ (255 + at_place t.takes place < at_place marks place + at_place t.gives place)
+  pub blocked : (at_place marks place < at_place (values t.takes) place) ⊎ (255 + at_place (values t.takes) place < at_place marks place + at_place (values t.gives) place)
 
 -- verdict v, and nothing else
 pub record Still (v : Verdict) (s : List ℕ) (r : Response) : Type 0 where
@@ -104,7 +109,7 @@ pub record Fires (ts : List Transition) (sends : List Send) (s : List ℕ) (sign
   pub earlier : AllBlocked signal s fires.before
   pub verdict : r.verdict ≡ Handled
   pub places : length r.next ≡ 8
-  pub changes : (n : ℕ) → From1To 8 n → Changes (at_place s n) (at_place fires.chosen.takes n) (at_place fires.chosen.gives n) (at_place r.next n)
+  pub changes : (n : ℕ) → From1To 8 n → Changes (at_place s n) (at_place (values fires.chosen.takes) n) (at_place (values fires.chosen.gives) n) (at_place r.next n)
   pub sent : r.sends ≡ sends_of sends fires.chosen.send ++ Recall ∷ []
 
 abbrev pub NetMoves : List Transition → List Send → List ℕ → ℕ → Response → Type 0

@@ -1,5 +1,7 @@
 // A transition of a net fires: place by place.
 ghost use Rattle.std.specs.Prelude.{◌≡◌};
+ghost use Rattle.std.specs.Option.{option_map};
+ghost use Rattle.terms.specs.Entries.{values};
 ghost use Rattle.objects.specs.Nets.{at_place, place_after, fired};
 
 use tables::net::Transition;
@@ -8,7 +10,7 @@ use terms::slots::Slots;
 // The marks after a transition fired, if it is enabled.
 #[tactic(auto, using(crate::proofs::Marks::after_more))]
 pub(crate) fn fired(transition: &Transition, marks: &Slots<u8, 8>) -> Option<Slots<u8, 8>>
-    ensures { result ≡ fired marks.now transition.now }
+    ensures { option_map values result ≡ fired (values marks.now) transition.now }
 {
     let mut after = Slots::new(0);
     // By number: three slots are read and one is written at each place, which a zip would not say more plainly.
@@ -22,7 +24,7 @@ pub(crate) fn fired(transition: &Transition, marks: &Slots<u8, 8>) -> Option<Slo
 
 // The marks, takes or gives of a place.
 fn at_place(numbers: &Slots<u8, 8>, place: usize) -> u8
-    ensures { result ≡ at_place numbers.now place }
+    ensures { result ≡ at_place (values numbers.now) place }
 {
     numbers.get(place).unwrap_or(0)
 }

@@ -46,7 +46,22 @@ impl FlatObject {
         ensures answer { Reacts 1 1 (flat_rule (flat_drawing self.old.flat)) (self.old.state ∷ []) (content event.now) result.verdict (entries result.sends) (self.new.state ∷ []) }
         ensures drawn { FlatResponds (flat_drawing self.old.flat) self.old.state (content event.now) (record { verdict = result.verdict; next = self.new.state ∷ []; sends = entries result.sends }) }
     {
-        self.respond(event)
+        self.by_rule(event)
+    }
+
+    // What the rule of the rows makes of an event.
+    fn by_rule(&mut self, event: &Event) -> Reaction
+        ensures flat { self.new.flat ≡ self.old.flat }
+        ensures answer { Reacts 1 1 (flat_rule (flat_drawing self.old.flat)) (self.old.state ∷ []) (content event.now) result.verdict (entries result.sends) (self.new.state ∷ []) }
+    {
+        match self.row(event.signal()).map(|row| row.action) {
+            Some(FlatAction::Move { next, send }) => {
+                self.state = next;
+                Reaction::handled(&self.flat.sends, send)
+            }
+            Some(FlatAction::Defer) => Reaction::silent(Verdict::Deferred),
+            None => Reaction::silent(Verdict::Ignored),
+        }
     }
 
     // The first row of the object's state and a signal.
@@ -76,13 +91,6 @@ impl Object for FlatObject {
     ghost few = { Prim.search rules };
 
     fn respond(&mut self, event: &Event) -> Reaction {
-        match self.row(event.signal()).map(|row| row.action) {
-            Some(FlatAction::Move { next, send }) => {
-                self.state = next;
-                Reaction::handled(&self.flat.sends, send)
-            }
-            Some(FlatAction::Defer) => Reaction::silent(Verdict::Deferred),
-            None => Reaction::silent(Verdict::Ignored),
-        }
+        self.react(event)
     }
 }

@@ -1,13 +1,15 @@
 // A Petri object: the first enabled transition of a signal fires.
-ghost use Rattle.std.specs.Prelude.{◌≡◌, [], length};
+ghost use Rattle.std.specs.Prelude.{◌≡◌, length};
 ghost use Rattle.std.specs.List.{list_any};
-ghost use Rattle.terms.specs.Entries.{entries};
+ghost use Rattle.std.specs.Option.{option_map};
+ghost use Rattle.terms.specs.Entries.{entries, values};
 ghost use Rattle.terms.specs.Events.{content};
+ghost use Rattle.terms.specs.Slots.{filled};
 ghost use Rattle.tables.specs.Drawing.{net_drawing};
 ghost use Rattle.tables.specs.declared.net.Net.{Net};
 ghost use Rattle.objects.specs.Crews.{Reacts};
 ghost use Rattle.objects.specs.Finding.{first_given};
-ghost use Rattle.objects.specs.Nets.{of_signal, fires, net_rule, NetMoves, NetAsDrawn};
+ghost use Rattle.objects.specs.Nets.{of_signal, fires, shown, net_rule, NetMoves, NetAsDrawn};
 ghost use Rattle.std.proofs.Common.{rules};
 
 use crate::firing::fired;
@@ -35,7 +37,7 @@ impl NetObject {
 
     // The marks of the eight places.
     pub fn marks(&self) -> &[u8]
-        ensures marks { result.now ≡ self.now.net.marks }
+        ensures marks { result.now ≡ values self.now.net.marks }
         ensures count { length result.now ≡ 8 }
     {
         self.net.marks.as_slice()
@@ -44,15 +46,33 @@ impl NetObject {
     // What the object does with an event, as its net is drawn.
     pub fn react(&mut self, event: &Event) -> Reaction
         ensures net { self.new.net ≡ record self.old.net { marks = self.new.net.marks } }
-        ensures answer { Reacts 1 1 (net_rule (net_drawing self.old.net)) self.old.net.marks (content event.now) result.verdict (entries result.sends) self.new.net.marks }
-        ensures drawn { NetMoves (entries self.old.net.transitions) (entries self.old.net.sends) self.old.net.marks (content event.now).signal (record { verdict = result.verdict; next = self.new.net.marks; sends = entries result.sends }) }
+        ensures answer { Reacts 1 1 (net_rule (net_drawing self.old.net)) (values self.old.net.marks) (content event.now) result.verdict (entries result.sends) (values self.new.net.marks) }
+        ensures drawn { NetMoves (entries self.old.net.transitions) (entries self.old.net.sends) (values self.old.net.marks) (content event.now).signal (record { verdict = result.verdict; next = values self.new.net.marks; sends = entries result.sends }) }
     {
-        self.respond(event)
+        self.by_rule(event)
+    }
+
+    // What the rule of the net makes of an event.
+    fn by_rule(&mut self, event: &Event) -> Reaction
+        ensures net { self.new.net ≡ record self.old.net { marks = self.new.net.marks } }
+        ensures answer { Reacts 1 1 (net_rule (net_drawing self.old.net)) (values self.old.net.marks) (content event.now) result.verdict (entries result.sends) (values self.new.net.marks) }
+    {
+        let signal = event.signal();
+        match self.enabled(signal) {
+            Some((transition, marks)) => {
+                self.net.marks = marks;
+                let mut reaction = Reaction::handled(&self.net.sends, transition.send);
+                reaction.add(Some(Send::Recall));
+                reaction
+            }
+            None if self.knows(signal) => Reaction::silent(Verdict::Deferred),
+            None => Reaction::silent(Verdict::Ignored),
+        }
     }
 
     // The first transition of a signal that is enabled, and the marks after it fired.
     fn enabled(&self, signal: u8) -> Option<(Transition, Slots<u8, 8>)>
-        ensures { result ≡ first_given (fires signal self.now.net.marks) (entries self.now.net.transitions) }
+        ensures { option_map shown result ≡ first_given (fires signal (values self.now.net.marks)) (entries self.now.net.transitions) }
     {
         self.net
             .transitions
@@ -63,7 +83,7 @@ impl NetObject {
 
     // A transition and the marks after it fired, if it has the signal and is enabled.
     fn fires(&self, transition: &Transition, signal: u8) -> Option<(Transition, Slots<u8, 8>)>
-        ensures { result ≡ fires signal self.now.net.marks transition.now }
+        ensures { option_map shown result ≡ fires signal (values self.now.net.marks) transition.now }
     {
         if transition.signal != signal {
             return None;
@@ -87,9 +107,9 @@ impl Object for NetObject {
     ghost Drawing = { Net };
 
     // the net without its marks, which are the state
-    ghost drawing = { λ o. record o.net { marks = [] } };
+    ghost drawing = { λ o. record o.net { marks = filled 8 0 } };
 
-    ghost state = { λ o. o.net.marks };
+    ghost state = { λ o. values o.net.marks };
 
     ghost rule = { λ d. net_rule (net_drawing d) };
 
@@ -98,16 +118,6 @@ impl Object for NetObject {
     ghost few = { Prim.search rules };
 
     fn respond(&mut self, event: &Event) -> Reaction {
-        let signal = event.signal();
-        match self.enabled(signal) {
-            Some((transition, marks)) => {
-                self.net.marks = marks;
-                let mut reaction = Reaction::handled(&self.net.sends, transition.send);
-                reaction.add(Some(Send::Recall));
-                reaction
-            }
-            None if self.knows(signal) => Reaction::silent(Verdict::Deferred),
-            None => Reaction::silent(Verdict::Ignored),
-        }
+        self.react(event)
     }
 }

@@ -1,6 +1,6 @@
 // A policy picks the object that is served next from the set of those that are ready.
 ghost use Rattle.std.specs.Prelude.{◌≡◌, ℕ, ◌<◌, true, List, ◌≢◌};
-ghost use Rattle.terms.specs.Sets.{member};
+ghost use Rattle.terms.specs.Sets.{member, bits_of};
 
 use terms::object_set::ObjectSet;
 
@@ -16,8 +16,8 @@ pub trait Policy {
     ghost later: { List ℕ → ℕ → List ℕ };
 
     fn pick(&mut self, ready: ObjectSet) -> u8
-        ensures member { result ≡ choice (memory self.old) ready }
-        ensures memory { memory self.new ≡ later (memory self.old) ready };
+        ensures member { result ≡ choice (memory self.old) (bits_of ready) }
+        ensures memory { memory self.new ≡ later (memory self.old) (bits_of ready) };
 
     // a set that is not empty has its choice as a member
     ghost chosen: { (m : List ℕ) (s : ℕ) → s < 256 → (s ≢ 0) → member (choice m s) s ≡ true };

@@ -1,33 +1,24 @@
 // The rotating policy goes round: it picks the first member met from its turn on, 1 after 8.
-ghost use Rattle.std.specs.Prelude.{◌≡◌, ℕ, ◌≤◌, [], ◌∷◌};
+ghost use Rattle.std.specs.Prelude.{◌≡◌, ◌≤◌, [], ◌∷◌};
 ghost use Rattle.std.proofs.Common.{ap};
+ghost use Rattle.terms.specs.Sets.{bits_of};
 ghost use Rattle.policies.specs.Picks.{onward, first_met, met, turned};
 ghost use Rattle.policies.specs.Turns.{met_member, met_empty};
 
 use crate::policy::Policy;
-use std::marker::Model;
 use terms::object_set::ObjectSet;
 
 #[derive(Clone, Copy, Debug, PartialEq, Eq)]
 pub struct Rotating {
     turn: u8,
-}
-
-// A clause sees the turn.
-impl Model for Rotating {
-    ghost Value = { ℕ };
-
-    ghost view = { λ p. p.turn };
-
-    ghost invariant = { λ p. (1 ≤ p.turn) × (p.turn ≤ 8) };
-
-    ghost inverse = { λ turn. record { turn = turn } };
+    ghost least: { 1 ≤ turn },
+    ghost most: { turn ≤ 8 },
 }
 
 impl Rotating {
     // At first it is the turn of object 1.
     pub fn new() -> Rotating
-        ensures { result ≡ 1 }
+        ensures { result.turn ≡ 1 }
     {
         Rotating { turn: 1 }
     }
@@ -35,7 +26,7 @@ impl Rotating {
     // The first member met, and 0 in the empty set, as `pick` answers it. A loop goes round, since the check has no list for a
     // range of numbers.
     fn first_met(&self, set: ObjectSet) -> u8
-        ensures { result ≡ met (self.now ∷ []) set }
+        ensures { result ≡ met (self.now.turn ∷ []) (bits_of set) }
     {
         let mut object = self.turn;
         for _ in 0..8u8 {
@@ -49,7 +40,7 @@ impl Rotating {
 }
 
 impl Policy for Rotating {
-    ghost memory = { λ p. p ∷ [] };
+    ghost memory = { λ p. p.turn ∷ [] };
 
     ghost choice = { λ m s. met m s };
 

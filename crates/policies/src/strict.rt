@@ -1,5 +1,6 @@
 // The strict policy picks the highest member.
 ghost use Rattle.std.specs.Prelude.{◌≡◌, true, [], length, refl};
+ghost use Rattle.terms.specs.Sets.{bits_of};
 ghost use Rattle.policies.specs.Picks.{highest, every, is_highest};
 ghost use Rattle.policies.specs.Highest.{member-highest};
 
@@ -46,7 +47,7 @@ fn table() -> &'static [u8]
 }
 
 fn highest_of(set: ObjectSet) -> u8
-    ensures { result ≡ highest set }
+    ensures { result ≡ highest (bits_of set) }
 {
     table()[usize::from(set.bits())]
 }

@@ -5,7 +5,7 @@ use Rattle.std.proofs.lemmas.List.{length_push}
 use Rattle.std.proofs.lemmas.Bool.Decides.{nat_tests}
 use Rattle.terms.specs.Calls.{Follows}
 use Rattle.terms.specs.declared.table.TableFault.{TableFault}
-use Rattle.terms.specs.Entries.{replaced, changed, added}
+use Rattle.terms.specs.Entries.{values, replaced, changed, added}
 use Rattle.terms.proofs.Held.{length-replaced, length-changed, numbered_last, numbered_push_cases, numbered-changed, all_replaced, all_changed}
 use Rattle.tables.specs.Drawing.{Drawing, undrawn, named, made, send_of, with_sends, add_send, parent_in, parent_of, up, with_states, state_of, add_state, descends, starting_at, set_initial, row_of, with_rows, add_row, flat_row_of, with_flat_rows, add_flat_row, with_marks, set_marks, with_transitions, transition_of, add_transition, with_arc, set_arc}
 use Rattle.tables.specs.declared.net.Transition.{Transition}
@@ -118,8 +118,8 @@ transition_kept d e signal send is w =
 with_arc_within : (sends place take give : ℕ) → take ≤ 255 → give ≤ 255 → (t : Transition) → TransitionWithin sends t → TransitionWithin sends (with_arc place take give t)
 with_arc_within sends place take give few fewer t w =
     let P : ℕ → Type 0 = λ n. n ≤ 255 in
-    let takes = all_replaced P t.takes place take few w.takes in
-    let gives = all_replaced P t.gives place give fewer w.gives in
+    let takes = all_replaced P (values t.takes) place take few w.takes in
+    let gives = all_replaced P (values t.gives) place give fewer w.gives in
     grind (arith, length-replaced {T = ℕ})
 
 pub arc_kept : (d e : Drawing) (transition place take give : ℕ) → set_arc d transition place take give ≡ Ok e → DrawingWithin d → DrawingWithin e

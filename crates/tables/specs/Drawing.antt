@@ -2,10 +2,12 @@
 use Rattle.std.specs.Prelude.{ℕ, zero, suc, Bool, true, cond, ◌&&◌, ◌||◌, List, [], length, replicate, Some, None, Ok, Err, Option, Result, ◌==◌, nat_le, nat_lt}
 use Rattle.std.specs.Bool.{then_some}
 use Rattle.std.specs.Option.{option_map, option_zip}
-use Rattle.terms.specs.Entries.{entries, numbered, replaced, changed, added}
+use Rattle.terms.specs.Entries.{entries, values, numbered, replaced, changed, added}
 use Rattle.terms.specs.Ranges.{between}
+use Rattle.terms.specs.Slots.{filled, put}
 use Rattle.terms.specs.declared.send.Send.{Send}
 use Rattle.terms.specs.declared.send.Send.TheVariants.{Post, Publish, Recall}
+use Rattle.terms.specs.declared.slots.Slots.{Slots}
 use Rattle.terms.specs.declared.table.Table.{Table}
 use Rattle.terms.specs.declared.table.TableFault.{TableFault}
 use Rattle.terms.specs.declared.table.TableFault.TheVariants.{Value}
@@ -28,7 +30,7 @@ use Rattle.tables.specs.declared.net.Net.{Net}
 
 -- a transition with no takes and gives yet
 abbrev pub blank_transition : ℕ → Option ℕ → Transition
-blank_transition signal send = record { signal = signal; send = send; takes = replicate 8 0; gives = replicate 8 0 }
+blank_transition signal send = record { signal = signal; send = send; takes = filled 8 0; gives = filled 8 0 }
 
 -- sends, states, rows and transitions in the order in which they were declared; marks by place
 pub record Drawing : Type 0 where
@@ -40,14 +42,14 @@ pub record Drawing : Type 0 where
   pub transitions : List Transition
 
 -- what the tables and the marks of a cell draw
-abbrev pub drawn : Table Send 32 → Table State 32 → Table Row 64 → Table FlatRow 64 → List ℕ → Table Transition 8 → Drawing
+abbrev pub drawn : Table Send 32 → Table State 32 → Table Row 64 → Table FlatRow 64 → Slots ℕ 8 → Table Transition 8 → Drawing
 drawn sends states rows flat_rows marks transitions =
     record {
       sends = entries sends;
       states = entries states;
       rows = entries rows;
       flat_rows = entries flat_rows;
-      marks = marks;
+      marks = values marks;
       transitions = entries transitions;
     }
 
@@ -82,7 +84,7 @@ abbrev pub flat_drawing : Flat → FlatDrawing
 flat_drawing f = record { rows = entries f.rows; sends = entries f.sends }
 
 abbrev pub net_drawing : Net → NetDrawing
-net_drawing n = record { transitions = entries n.transitions; marks = n.marks; sends = entries n.sends }
+net_drawing n = record { transitions = entries n.transitions; marks = values n.marks; sends = entries n.sends }
 
 abbrev pub undrawn : Drawing
 undrawn = record { sends = []; states = []; rows = []; flat_rows = []; marks = replicate 8 0; transitions = [] }
@@ -223,7 +225,7 @@ unfoldable pub add_transition : Drawing → ℕ → ℕ → Result Drawing Table
 add_transition d signal send = made (with_transitions d) (added 8 d.transitions (transition_of d signal send))
 
 abbrev pub with_arc : ℕ → ℕ → ℕ → Transition → Transition
-with_arc place take give t = record t { takes = replaced t.takes place take; gives = replaced t.gives place give }
+with_arc place take give t = record t { takes = put t.takes place take; gives = put t.gives place give }
 
 -- what a declared transition takes from a place and gives to it
 unfoldable pub set_arc : Drawing → ℕ → ℕ → ℕ → ℕ → Result Drawing TableFault

@@ -1,7 +1,7 @@
 -- The limits of the tables of a cell.
 use Rattle.std.specs.Prelude.{◌≡◌, ℕ, ◌<◌, ◌≤◌, true, List, length, IfSome, Some, Option}
 use Rattle.std.specs.List.{AllByRecursion}
-use Rattle.terms.specs.Entries.{numbered}
+use Rattle.terms.specs.Entries.{numbered, values}
 use Rattle.terms.specs.declared.send.Send.{Send}
 use Rattle.terms.specs.declared.send.Send.TheVariants.{Post, Publish, Recall}
 use Rattle.tables.specs.Drawing.{Drawing, ChartDrawing, chart_in, up, descends}
@@ -64,9 +64,9 @@ pub record FlatRowWithin (sends : ℕ) (r : FlatRow) : Type 0 where
 pub record TransitionWithin (sends : ℕ) (t : Transition) : Type 0 where
   pub signal : From1To 64 t.signal
   pub send : Declared sends t.send
-  pub places : (length t.takes ≡ 8) × (length t.gives ≡ 8)
-  pub takes : AllByRecursion (λ n. n ≤ 255) t.takes
-  pub gives : AllByRecursion (λ n. n ≤ 255) t.gives
+  pub places : (length (values t.takes) ≡ 8) × (length (values t.gives) ≡ 8)
+  pub takes : AllByRecursion (λ n. n ≤ 255) (values t.takes)
+  pub gives : AllByRecursion (λ n. n ≤ 255) (values t.gives)
 
 -- the limits of a chart by itself
 pub record ChartWithin (c : ChartDrawing) : Type 0 where

@@ -32,7 +32,8 @@ pub struct Tables {
 impl Tables {
     ghost use Rattle.tables.specs.Tables.{drawing};
 
-    // Nothing declared yet, and no marks.
+    // Nothing declared yet, and no marks. Where it was inlined, the tables were filled and moved field by field.
+    #[inline(never)]
     pub fn new() -> Tables
         ensures { drawing result ≡ undrawn }
     {

@@ -1,16 +1,13 @@
 -- What holds of numbered values after one was replaced, changed or added.
-use Rattle.std.proofs.Common.{◌≡◌, ℕ, zero, suc, ◌≤◌, ◌⊎◌, List, [], ◌∷◌, ◌++◌, length, Some, refl, ap, inl, inr, ⊎_elim, arith, length-set}
+use Rattle.std.proofs.Common.{◌≡◌, ℕ, zero, suc, ◌≤◌, ◌⊎◌, List, [], ◌∷◌, ◌++◌, length, Some, refl, ap, inl, inr, ⊎_elim, arith}
 use Rattle.std.specs.List.{AllByRecursion}
 use Rattle.std.proofs.ByRecursion.{All-set}
 use Rattle.std.proofs.lemmas.List.{length-take-le}
 use Rattle.terms.specs.declared.table.Table.{Table}
 use Rattle.terms.specs.Entries.{entries, numbered, replaced, changed}
+pub use Rattle.terms.specs.Slots.{length-replaced}
 
 module _ {T : Type 0} where
-  pub length-replaced : (xs : List T) (n : ℕ) (x : T) → length (replaced xs n x) ≡ length xs
-  length-replaced xs zero x = refl
-  length-replaced xs (suc n) x = length-set xs n x
-
   pub length-changed : (xs : List T) (n : ℕ) (f : T → T) → length (changed xs n f) ≡ length xs
   length-changed xs zero f = refl
   length-changed [] (suc n) f = refl

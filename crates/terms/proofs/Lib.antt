@@ -3,3 +3,4 @@ pub mod Held
 pub mod Members
 pub mod Numbered
 pub mod Ranges
+pub mod SameSlots

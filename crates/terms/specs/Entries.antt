@@ -1,9 +1,14 @@
 -- Numbered values: what slots and a table hold, and what adding and replacing leave.
 use Rattle.std.specs.Prelude.{ℕ, zero, suc, Bool, false, cond, List, [], ◌∷◌, ◌++◌, length, take, Some, None, Ok, Err, Option, Result, nat_lt, slice_set}
 use Rattle.std.specs.List.{slice_get}
+use Rattle.terms.specs.declared.slots.Slots.{Slots}
 use Rattle.terms.specs.declared.table.Table.{Table}
 use Rattle.terms.specs.declared.table.TableFault.{TableFault}
 use Rattle.terms.specs.declared.table.TableFault.TheVariants.{Full, Value}
+
+-- the values of slots, in the order of their numbers
+abbrev pub values : {T : Type 0} {N : ℕ} → Slots T N → List T
+values s = s.values
 
 -- the entries of a table, in the order in which they were added
 abbrev pub entries : {T : Type 0} {N : ℕ} → Table T N → List T

@@ -4,3 +4,4 @@ pub mod Events
 pub mod Ranges
 pub mod Refusals
 pub mod Sets
+pub mod Slots

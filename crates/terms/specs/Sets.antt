@@ -1,5 +1,6 @@
 -- Sets of objects as numbers: object o counts 2^(o - 1), for o from 1 to 8.
 use Rattle.std.specs.Prelude.{ℕ, zero, suc, ◌/◌, ◌%◌, ◌^◌, Bool, false, cond, ◌&&◌, ◌==◌, bit_or, nat_lt}
+use Rattle.terms.specs.declared.object_set.ObjectSet.{ObjectSet}
 
 abbrev pub weight : ℕ → ℕ
 weight zero = 0
@@ -11,5 +12,9 @@ member zero s = false
 member (suc k) s = nat_lt k 8 && s / 2 ^ k % 2 == 1
 
 -- the set with object o too
-abbrev pub joins : ℕ → ℕ → ℕ
-joins o s = bit_or s (weight o)
+abbrev pub joins : ℕ → ObjectSet → ObjectSet
+joins o s = record { bits = bit_or s.bits (weight o) }
+
+-- the set as a number
+abbrev pub bits_of : ObjectSet → ℕ
+bits_of s = s.bits

@@ -1,21 +1,10 @@
 // A set of objects: an 8-bit number in which object o counts 2^(o - 1).
-ghost use Rattle.std.specs.Prelude.{◌≡◌, ℕ};
-ghost use Rattle.terms.specs.Sets.{weight, member, joins};
-
-use std::marker::Model;
+ghost use Rattle.std.specs.Prelude.{◌≡◌};
+ghost use Rattle.terms.specs.Sets.{weight, member, joins, bits_of};
 
 #[derive(Clone, Copy, Debug, PartialEq, Eq)]
 pub struct ObjectSet {
     bits: u8,
-}
-
-// A clause sees the number.
-impl Model for ObjectSet {
-    ghost Value = { ℕ };
-
-    ghost view = { λ s. s.bits };
-
-    ghost inverse = { λ n. record { bits = n } };
 }
 
 impl ObjectSet {
@@ -32,13 +21,13 @@ impl ObjectSet {
 
     // The set as a number, by the name that sets of bits give it.
     pub fn bits(self) -> u8
-        ensures { result ≡ self }
+        ensures { result ≡ bits_of self }
     {
         self.bits
     }
 
     pub fn contains(self, object: u8) -> bool
-        ensures { result ≡ member object self }
+        ensures { result ≡ member object self.bits }
     {
         matches!(object, 1..=8) && (self.bits >> (object - 1)) & 1 == 1
     }
