@@ -57,11 +57,12 @@ fn hex(digit: u8) -> Option<u8>
 fn first_byte(text: &[u8]) -> Option<(u8, &[u8])>
     ensures { IfSome result (λ p. length p.1.now < length text.now) }
 {
-    match text {
-        [b'/', after @ ..] => Some((b'\n', after)),
-        [b'%', high, low, after @ ..] => Some((hex(*high)? * 16 + hex(*low)?, after)),
-        [] | [b'%', ..] => None,
-        [b, after @ ..] => Some((*b, after)),
+    let (first, after) = text.split_first()?;
+    match (*first, after) {
+        (b'/', after) => Some((b'\n', after)),
+        (b'%', [high, low, after @ ..]) => Some((hex(*high)? * 16 + hex(*low)?, after)),
+        (b'%', _) => None,
+        (b, after) => Some((b, after)),
     }
 }
 

@@ -1,9 +1,11 @@
 -- Digits, and the one number that they write.
-use Rattle.std.proofs.Common.{◌≡◌, ℕ, zero, suc, ◌+◌, ◌*◌, ◌<◌, ◌≤◌, List, length, get_or, take, decimal, sym, refl, ap, ◌∙◌, subst, arith}
+use Rattle.std.proofs.Common.{◌≡◌, ℕ, zero, suc, ◌+◌, ◌*◌, ◌<◌, ◌≤◌, List, Result, None, Some, Ok, Err, OkIff, length, get_or, take, decimal, sym, refl, ap, ◌∙◌, subst, arith}
 use Rattle.std.proofs.lemmas.Fmt.{decimal_is_IsNumeral, decimal_digit, decimal_nonempty, decimal-digits_value, digits_decimal, first_decimal}
 use Rattle.std.proofs.lemmas.Str.Parse.{IsNumeralModel, numerals_by_value, tells_digits, digit_at, digits_value-take-le}
 use Rattle.std.proofs.lemmas.Int.Digits.{digits_more, digits_value_more}
+use Rattle.std.proofs.lemmas.Option.{none-some}
 use Rattle.std.specs.Char.{digit_value}
+use Rattle.std.specs.Result.{result_ok}
 use Rattle.std.specs.Str.Parse.{digits_value, AllDigits}
 
 pub own : IsNumeralModel (AllDigits 10) (digits_value 10)
@@ -30,6 +32,16 @@ led (suc n) small =
 
 pub decimal_led : (n : ℕ) (ds : List ℕ) → n ≤ 65535 → decimal n ≡ ds → Led ds
 decimal_led n ds small is = subst Led is (led n small)
+
+-- a number that was narrowed, or was too large for it
+module _ {E : Type 0} (P : Type 0) (n : ℕ) where
+  pub narrowed : (r : Result ℕ E) → OkIff r P n → (v : ℕ) → Some v ≡ result_ok r → P × (v ≡ n)
+  narrowed (Ok x) fits v is = let same : v ≡ x = cc in (fits.0, same ∙ fits.1)
+  narrowed (Err e) none v is = absurd (none-some v (sym is))
+
+  pub too_large : (r : Result ℕ E) → OkIff r P n → None ≡ result_ok r → P → ⊥
+  too_large (Ok x) fits is = absurd (none-some x is)
+  too_large (Err e) none is = none
 
 -- the value of digits, up to 65535
 pub record Counts (ds : List ℕ) (value : ℕ) : Type 0 where

@@ -36,7 +36,8 @@ impl Draft {
     pub(crate) fn line(&mut self, bytes: &[u8]) -> Result<Option<Command>, Cause>
         ensures { (script : List Order) → LineIs (drafted self.old script) bytes.now (outcome self.new script result) }
     {
-        let line = Line::parse(bytes).ok_or(LineFault::Form)?;
+        let mut line = Line::new();
+        line.parse(bytes).ok_or(LineFault::Form)?;
         self.act(&line)
     }
 

@@ -1,13 +1,13 @@
 // The parts of a scenario file, in their order, and the letters of each.
 ghost use Rattle.std.specs.Prelude.{◌≡◌};
-ghost use Rattle.scenario.specs.Parts.{part_of};
+ghost use Rattle.scenario.specs.Parts.{part_of, rank_of};
 
 // A part comes before another where it is less.
 #[derive(Clone, Copy, Debug, PartialEq, Eq, PartialOrd, Ord)]
 pub enum Part {
-    Setup,
-    Tables,
-    Script,
+    Setup = 1,
+    Tables = 2,
+    Script = 3,
 }
 
 impl Part {
@@ -22,5 +22,12 @@ impl Part {
             'p' | 'f' | 'b' | 'r' | 'g' => Some(Part::Script),
             _ => None,
         }
+    }
+
+    // Where the part stands in a file.
+    pub fn rank(self) -> u8
+        ensures { result ≡ rank_of self }
+    {
+        self as u8
     }
 }
