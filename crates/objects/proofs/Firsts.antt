@@ -1,7 +1,6 @@
 -- What is found is the first that passes.
-use Rattle.std.proofs.Common.{◌≡◌, ℕ, zero, suc, get_or, ◌+◌, ◌<◌, ◌≤◌, length, drop, ◌++◌, Bool, true, false, cond, ◌||◌, ◌⊎◌, is_some, List, [], ◌∷◌, find, Some, None, Option, sym, refl, ap, ◌∙◌, inl, inr, ⊎_elim, arith}
+use Rattle.std.proofs.Common.{◌≡◌, ℕ, zero, suc, get_or, ◌<◌, length, ◌++◌, Bool, true, false, cond, ◌||◌, ◌⊎◌, is_some, List, [], ◌∷◌, find, Some, None, Option, sym, refl, ap, ◌∙◌, inl, inr, ⊎_elim, arith}
 use Rattle.std.proofs.lemmas.Bool.{cond-true, cond-false, cases_Bool}
-use Rattle.std.proofs.lemmas.List.{at_drop_more, at_drop_all}
 use Rattle.std.specs.List.{AllByRecursion, list_any}
 use Rattle.std.specs.Option.{option_or, option_map, MatchOption}
 use Rattle.objects.specs.Finding.{first_given, NoneOf, First}
@@ -17,17 +16,6 @@ match_mapped f None N S h = h
 match_mapped f (Some x) N S h = h
 
 module _ {X : Type 0} (p : X → Bool) where
-  -- the item at place i passes
-  pub find_here : (xs : List X) (i : ℕ) (d : X) → i < length xs → p (get_or xs i d) ≡ true → find p (drop i xs) ≡ Some (get_or xs i d)
-  find_here xs i d lt holds = at_drop_more (find p) xs i d lt ∙ cond-true (p (get_or xs i d)) (Some (get_or xs i d)) _ holds
-
-  -- it does not
-  pub find_later : (xs : List X) (i : ℕ) (d : X) → i < length xs → p (get_or xs i d) ≡ false → find p (drop i xs) ≡ find p (drop (i + 1) xs)
-  find_later xs i d lt out = at_drop_more (find p) xs i d lt ∙ cond-false (p (get_or xs i d)) (Some (get_or xs i d)) _ out
-
-  pub find_nowhere : (xs : List X) (i : ℕ) → length xs ≤ i → find p (drop i xs) ≡ None
-  find_nowhere xs i le = at_drop_all (find p) xs i le
-
   after_one : (x y : X) (xs : List X) → p x ≡ false → First p xs y → First p (x ∷ xs) y
   after_one x y xs out f =
       record {

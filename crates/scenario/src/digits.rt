@@ -7,7 +7,7 @@ ghost use Rattle.std.specs.Prelude.{◌≡◌, ℕ, ◌≤◌, decimal, MatchOpt
 pub(crate) fn number(digits: &[u8]) -> Option<u16>
     ensures { MatchOption result ((n : ℕ) → n ≤ 65535 → decimal n ≢ digits.now) (λ n. (n ≤ 65535) × (decimal n ≡ digits.now)) }
 {
-    if let [] | [b'0', _, ..] = digits {
+    if matches!(digits, [] | [b'0', _, ..]) {
         return None;
     }
     let mut value: u16 = 0;

@@ -5,9 +5,9 @@ ghost use Rattle.scenario.specs.Parts.{part_of, rank_of};
 // A part comes before another where it is less.
 #[derive(Clone, Copy, Debug, PartialEq, Eq, PartialOrd, Ord)]
 pub enum Part {
-    Setup = 1,
-    Tables = 2,
-    Script = 3,
+    Setup,
+    Tables,
+    Script,
 }
 
 impl Part {
@@ -28,6 +28,10 @@ impl Part {
     pub fn rank(self) -> u8
         ensures { result ≡ rank_of self }
     {
-        self as u8
+        match self {
+            Part::Setup => 1,
+            Part::Tables => 2,
+            Part::Script => 3,
+        }
     }
 }

@@ -1,5 +1,4 @@
 use Rattle.std.proofs.Common.{◌≡◌, find, drop}
-use Rattle.terms.specs.Entries.{entries}
 use Rattle.objects.specs.Charts.{applies}
 use Rattle.objects.proofs.chart_object.ChartObject.row_of.Given as goal
 
